@@ -7,9 +7,10 @@
 
 ghost use Rattle.version_table.specs.Table.{IsValidTable};
 
+use buffer_windows::value_of_windows;
 use dual_bounds::{Windows, bound_of, dual_value, nothing_fixed, window_value};
 use list_types::OutOfMemory;
-use multiplier_search::{best_single, best_window, improve, relaxation};
+use multiplier_search::{best_single, best_window, buffered_windows, improve, relaxation};
 use shelf_io::read_file;
 use shelf_kinds::FileShelf;
 use std::alloc::Global;
@@ -61,6 +62,9 @@ fn search(alloc: Global, table: &Table, what: &str) -> Result<Came, OutOfMemory>
     if what == "relaxation" {
         return relaxed(alloc, table);
     }
+    if what == "buffers" {
+        return buffered(alloc, table);
+    }
     if what == "window" {
         return window(alloc, table);
     }
@@ -73,6 +77,18 @@ fn search(alloc: Global, table: &Table, what: &str) -> Result<Came, OutOfMemory>
     Ok(Came {
         value: 0,
         windows: 0,
+    })
+}
+
+/// The windows that see the buffers.
+fn buffered(alloc: Global, table: &Table) -> Result<Came, OutOfMemory>
+    requires { IsValidTable table.now }
+{
+    let fixed = nothing_fixed(alloc, table)?;
+    let windows = buffered_windows(alloc, table, &fixed)?;
+    Ok(Came {
+        value: value_of_windows(table, fixed.as_slice(), windows.as_slice()) / 184,
+        windows: windows.as_slice().len(),
     })
 }
 

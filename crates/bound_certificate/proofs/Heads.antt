@@ -1,10 +1,10 @@
 -- Where the mark and the number of nodes are refused, byte by byte.
-use Rattle.std.proofs.Common.{◌≡◌, ℕ, zero, suc, ◌+◌, ◌*◌, ◌^◌, ◌<◌, ◌≤◌, List, [], ◌∷◌, ◌++◌, Bool, true, false, length, slice_index, refl, sym, ap, ◌∙◌, arith, lit<}
+use Rattle.std.proofs.Common.{◌≡◌, ℕ, ◌+◌, ◌^◌, ◌<◌, ◌≤◌, List, [], ◌∷◌, ◌++◌, Bool, true, false, slice_index, refl, ap, arith, lit<}
 use Rattle.std.proofs.lemmas.Bool.{eqb-true}
 use Rattle.std.specs.Prelude.{◌==◌, if◌then◌else◌}
 use Rattle.bound_certificate.specs.declared.fault.Stop.{Stop}
-use Rattle.bound_certificate.specs.Private.Texts.{Then, IsOneOf, IsByte, IsStop, IsMark, IsCount, IsNodeCount, AfterFirst, AfterSecond, AfterThird, last_most, last_least}
-use Rattle.bound_certificate.proofs.Refusals.{Ends, stop_first, stop_next}
+use Rattle.bound_certificate.specs.Private.Texts.{Then, IsByte, IsStop, IsMark, IsCount, IsLongCount, IsNodeCount, AfterFirst, AfterSecond, AfterThird, last_most, last_least}
+use Rattle.bound_certificate.proofs.Refusals.{stop_first, stop_next}
 use Rattle.bound_certificate.proofs.Parts.{ends_byte, one_of, some_byte}
 
 -- a byte of a text is known
@@ -52,6 +52,19 @@ mark_three bytes stop refused = stop_first (IsByte 0x58 0x58) (λ _. IsByte 0x43
 pub count_one : (bytes : List ℕ) (stop : Stop) → IsStop (IsByte 0 0) bytes stop → IsStop IsCount bytes stop
 count_one bytes stop refused = stop_first (IsByte 0 0) (λ _. IsByte 0 64) bytes stop (λ _ _. some_byte 0 64 (omega arith) (lit< tt)) refused
 
+-- ---- a count of up to 4,096
+
+pub last_fits : (second : ℕ) → last_most second < 2 ^ 8
+last_fits second = by_test (second == 16)
+  where
+    by_test : (test : Bool) → (if test then 0 else 255) < 2 ^ 8
+    by_test true = lit< tt
+    by_test false = lit< tt
+
+pub long_count_one : (bytes : List ℕ) (stop : Stop) → IsStop (IsByte 0 16) bytes stop → IsStop IsLongCount bytes stop
+long_count_one bytes stop refused =
+    stop_first (IsByte 0 16) (λ high. IsByte 0 (last_most (slice_index high 0))) bytes stop (λ high _. some_byte 0 (last_most (slice_index high 0)) (omega arith) (last_fits (slice_index high 0))) refused
+
 -- ---- the number of nodes
 
 least_of : (n m : ℕ) → n ≤ 16 → (if n + m == 0 then 1 else 0) ≤ (if n == 16 then 0 else 255)
@@ -62,13 +75,6 @@ least_of n m few = by_test (n == 16) (n + m == 0) refl refl
     by_test true false first last = omega arith
     by_test false true first last = omega arith
     by_test false false first last = omega arith
-
-pub last_fits : (second : ℕ) → last_most second < 2 ^ 8
-last_fits second = by_test (second == 16)
-  where
-    by_test : (test : Bool) → (if test then 0 else 255) < 2 ^ 8
-    by_test true = lit< tt
-    by_test false = lit< tt
 
 pub some_fourth : (second third : List ℕ) → slice_index second 0 ≤ 16 → (x : List ℕ) × AfterThird second third x
 some_fourth second third few =

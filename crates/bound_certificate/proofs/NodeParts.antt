@@ -1,14 +1,17 @@
 -- Where the parts of a node are refused, and the items in its bytes.
-use Rattle.std.proofs.Common.{◌≡◌, ℕ, zero, suc, ◌+◌, ◌*◌, ◌^◌, ◌<◌, ◌≤◌, List, [], ◌∷◌, ◌++◌, length, take, drop, slice_index, refl, sym, ap, ap₂, subst, ◌∙◌, arith, lit<, length-append}
+use Rattle.std.proofs.Common.{◌≡◌, ℕ, zero, suc, ◌+◌, ◌*◌, ◌^◌, ◌<◌, ◌≤◌, List, [], ◌∷◌, ◌++◌, length, get_or, take, drop, slice_index, refl, sym, ap, ap₂, subst, ◌∙◌, arith, lit<, length-append}
 use Rattle.std.specs.List.{flat_map, AllByRecursion}
+use Rattle.std.specs.Int.{w16, to_be_bytes, from_be_bytes}
+use Rattle.std.proofs.lemmas.Nat.{from_be_bytes-to_be_bytes_2}
 use Rattle.std.proofs.lemmas.Grind.{flat_map-append}
 use Rattle.std.proofs.lemmas.List.{append-nil, drop-drop, length_push, take_all}
 use Rattle.bit_lists.specs.Fields.{AreBytes}
 use Rattle.bound_certificate.specs.declared.fault.Stop.{Stop}
 use Rattle.bound_certificate.specs.declared.fault.Stop.TheVariants.{At, OutOfMemory}
-use Rattle.bound_certificate.specs.Private.Texts.{Then, IsOneOf, IsByte, IsBlock, IsRefused, IsStop, IsKind, IsCount, count_of, AreCounted, IsBody, IsNode}
+use Rattle.bound_certificate.specs.Private.Texts.{IsOneOf, IsByte, IsBlock, IsRefused, IsStop, IsKind, IsCount, count_of, AreCounted, IsLongCount, AreLongCounted, IsBody, IsNode}
 use Rattle.bound_certificate.proofs.Refusals.{stop_first, stop_next}
-use Rattle.bound_certificate.proofs.Parts.{ends_count, ends_one, no_byte, one_of, some_counted, body_of}
+use Rattle.bound_certificate.proofs.Parts.{ends_count, ends_long_count, ends_one, no_byte, one_of, some_counted, some_long_counted, body_of}
+use Rattle.bound_certificate.proofs.Numbers.{long_count_text}
 use Rattle.bound_certificate.proofs.Heads.{is_byte}
 
 -- ---- kinds
@@ -41,6 +44,16 @@ pub stop_items : (size count : ℕ) (bytes rest : List ℕ) (stop : Stop) → co
 stop_items size count bytes rest stop few same refused =
     stop_next IsCount (λ c. IsBlock (size * count_of c)) bytes (0 ∷ count ∷ []) rest stop ends_count (is_count count few) same refused
 
+pub stop_long_count : (size : ℕ) (bytes : List ℕ) (stop : Stop) → IsStop IsLongCount bytes stop → IsStop (AreLongCounted size) bytes stop
+stop_long_count size bytes stop refused = stop_first IsLongCount (λ count. IsBlock (size * from_be_bytes w16 count)) bytes stop (some_long_counted size) refused
+
+pub stop_long_items : (size count : ℕ) (bytes rest : List ℕ) (stop : Stop) → count ≤ 4096 → bytes ≡ to_be_bytes w16 count ++ rest → IsStop (IsBlock (size * count)) rest stop
+    → IsStop (AreLongCounted size) bytes stop
+stop_long_items size count bytes rest stop few same refused =
+    let count_is : from_be_bytes w16 (to_be_bytes w16 count) ≡ count = from_be_bytes-to_be_bytes_2 count (omega (arith, few)) in
+    stop_next IsLongCount (λ c. IsBlock (size * from_be_bytes w16 c)) bytes (to_be_bytes w16 count) rest stop ends_long_count (long_count_text count few) same
+    (subst (λ (n : ℕ). IsStop (IsBlock (size * n)) rest stop) (sym count_is) refused)
+
 -- ---- nodes
 
 pub stop_node_kind : (version : ℕ) (bytes : List ℕ) (stop : Stop) → IsStop (IsOneOf (IsKind version)) bytes stop → IsStop (IsNode version) bytes stop
@@ -63,6 +76,11 @@ take_add (suc n) m (x ∷ xs) = ap (λ (k : ℕ). take k (x ∷ xs)) (let e : su
 pub two_parts : (place n m : ℕ) (xs a b : List ℕ) → a ≡ take n (drop place xs) → b ≡ take m (drop (place + n) xs) → a ++ b ≡ take (n + m) (drop place xs)
 two_parts place n m xs a b first second =
     ap₂ (λ (s t : List ℕ). s ++ t) first (second ∙ ap (λ (ys : List ℕ). take m ys) (sym (drop-drop n place xs))) ∙ sym (take_add n m (drop place xs))
+
+pub one_byte : (n : ℕ) (xs : List ℕ) → n < length xs → get_or xs n 0 ∷ [] ≡ take 1 (drop n xs)
+one_byte n [] short = absurd (omega (arith, short))
+one_byte zero (x ∷ xs) short = refl
+one_byte (suc n) (x ∷ xs) short = one_byte n xs (omega (arith, short))
 
 pub AllByRecursion-push : {A : Type 0} (P : A → Type 0) (xs : List A) (x : A) → AllByRecursion P xs → P x → AllByRecursion P (xs ++ x ∷ [])
 AllByRecursion-push P [] x all is = (is, tt)

@@ -1,43 +1,11 @@
 -- Numbers in bytes: which number a block holds, and that it is the only one.
-use Rattle.std.proofs.Common.{
-  ◌≡◌,
-  ℕ,
-  zero,
-  suc,
-  ◌+◌,
-  ◌*◌,
-  ◌/◌,
-  ◌%◌,
-  ◌^◌,
-  ◌<◌,
-  ◌≤◌,
-  Bool,
-  true,
-  false,
-  List,
-  [],
-  ◌∷◌,
-  ◌++◌,
-  length,
-  get_or,
-  take,
-  drop,
-  slice_index,
-  refl,
-  sym,
-  ap,
-  ap₂,
-  subst,
-  ◌∙◌,
-  arith,
-  lit<,
-}
+use Rattle.std.proofs.Common.{◌≡◌, ℕ, zero, suc, ◌+◌, ◌*◌, ◌/◌, ◌%◌, ◌^◌, ◌<◌, ◌≤◌, Bool, true, false, List, [], ◌∷◌, ◌++◌, get_or, slice_index, refl, sym, ap, ap₂, subst, ◌∙◌, arith, lit<}
 use Rattle.std.specs.Prelude.{◌==◌, if◌then◌else◌}
 use Rattle.std.specs.Int.{w16, w32, w64, to_be_bytes, from_be_bytes}
 use Rattle.std.proofs.lemmas.Bool.{eqb-true, eqb-false}
 use Rattle.std.proofs.lemmas.Nat.{be_bytes_4, be_bytes_8, from_be_bytes-to_be_bytes_2, from_be_bytes-to_be_bytes_4, from_be_bytes-to_be_bytes_8}
 use Rattle.bit_lists.specs.Fields.{AreBytes}
-use Rattle.bound_certificate.specs.Private.Texts.{Then, IsBlock, IsByte, IsNodeCount, last_most, last_least}
+use Rattle.bound_certificate.specs.Private.Texts.{IsBlock, IsLongCount, IsNodeCount, last_most, last_least}
 use Rattle.bound_certificate.proofs.Heads.{is_byte, last_fits}
 
 -- ---- one number
@@ -68,6 +36,72 @@ short_count n few =
     let high : n / 256 % 256 ≡ 0 = omega (arith, few) in
     let rest : n % 256 ≡ n = omega (arith, few) in
     ap₂ (λ (a b : ℕ). a ∷ b ∷ []) high rest
+
+-- ---- a count of up to 4,096
+
+most_of_count : (high low : ℕ) → low ≤ 255 → (high ≡ 16 → low ≡ 0) → low ≤ last_most high
+most_of_count high low fits none = by_test (high == 16) refl
+  where
+    by_test : (test : Bool) → (high == 16) ≡ test → low ≤ (if test then 0 else 255)
+    by_test true is = omega (arith, none (eqb-true high 16 is))
+    by_test false is = fits
+
+pub most_is : (high low : ℕ) → low ≤ last_most high → (low ≤ 255) × (high ≡ 16 → low ≡ 0)
+most_is high low most = (by_test (high == 16) most, λ is. at_16 is)
+  where
+    by_test : (test : Bool) → low ≤ (if test then 0 else 255) → low ≤ 255
+    by_test true few = omega (arith, few)
+    by_test false few = few
+
+    at_16 : high ≡ 16 → low ≡ 0
+    at_16 is =
+        let few : low ≤ last_most 16 = subst (λ (h : ℕ). low ≤ last_most h) is most in
+        let none : low ≤ 0 = few in
+        omega (arith, none)
+
+pub long_count : (high low : ℕ) → high ≤ 16 → low ≤ last_most high → IsLongCount (high ∷ low ∷ [])
+long_count high low few most =
+    let low_is = most_is high low most in
+    record {
+      front = high ∷ [];
+      behind = low ∷ [];
+      joined = refl;
+      first_is = is_byte 0 16 high (omega arith) few (lit< tt);
+      second_is = is_byte 0 (last_most high) low (omega arith) most (last_fits high);
+    }
+
+pub long_count_text : (n : ℕ) → n ≤ 4096 → IsLongCount (to_be_bytes w16 n)
+long_count_text n few =
+    let high : ℕ = n / 256 % 256 in
+    let low : ℕ = n % 256 in
+    let at_most : high ≤ 16 = omega (arith, few) in
+    let fits : low ≤ 255 = omega arith in
+    long_count high low at_most (most_of_count high low fits (λ is. let e : n / 256 % 256 ≡ 16 = is in omega (arith, few, e)))
+
+-- the number that two bytes spell
+pub two_of : (high low n : ℕ) → high ≤ 16 → low ≤ last_most high → n ≡ high * 256 + low → (n ≤ 4096) × (high ∷ low ∷ [] ≡ to_be_bytes w16 n)
+two_of high low n few most is =
+    let low_is = most_is high low most in
+    let first : high ≡ n / 256 % 256 = omega (arith, is, few, low_is.0) in
+    let second : low ≡ n % 256 = omega (arith, is, few, low_is.0) in
+    let limit = at_most (high == 16) refl in
+    (omega (arith, is, limit), ap₂ (λ (a b : ℕ). a ∷ b ∷ []) first second)
+  where
+    at_most : (test : Bool) → (high == 16) ≡ test → high * 256 + low ≤ 4096
+    at_most true is =
+        let e = eqb-true high 16 is in
+        omega (arith, e, (most_is high low most).1 e)
+    at_most false is = omega (arith, few, eqb-false high 16 is, (most_is high low most).0)
+
+pub long_count_of : (bytes : List ℕ) → IsLongCount bytes → (n : ℕ) × (n ≤ 4096) × (bytes ≡ to_be_bytes w16 n)
+long_count_of bytes is =
+    let high = is.first_is in
+    let low = is.second_is in
+    let most : low.byte ≤ last_most high.byte = subst (λ (xs : List ℕ). low.byte ≤ last_most (slice_index xs 0)) high.is low.allows.1 in
+    let n : ℕ = high.byte * 256 + low.byte in
+    let found = two_of high.byte low.byte n high.allows.1 most refl in
+    let whole : bytes ≡ high.byte ∷ low.byte ∷ [] = is.joined ∙ ap₂ (λ (a b : List ℕ). a ++ b) high.is low.is in
+    (n, found.0, whole ∙ found.1)
 
 -- ---- the number of a block
 

@@ -1,36 +1,7 @@
 -- The parts of which a certificate is made: where they end, that there are some, and where they are refused.
-use Rattle.std.proofs.Common.{
-  ◌≡◌,
-  ◌≢◌,
-  ℕ,
-  zero,
-  suc,
-  ◌+◌,
-  ◌-◌,
-  ◌*◌,
-  ◌^◌,
-  ◌<◌,
-  ◌≤◌,
-  List,
-  [],
-  ◌∷◌,
-  ◌++◌,
-  length,
-  get_or,
-  replicate,
-  slice_index,
-  refl,
-  sym,
-  ap,
-  subst,
-  ◌∙◌,
-  arith,
-  length-append,
-  append_assoc,
-  lit<,
-}
+use Rattle.std.proofs.Common.{◌≡◌, ℕ, zero, suc, ◌-◌, ◌*◌, ◌^◌, ◌<◌, ◌≤◌, List, [], ◌∷◌, ◌++◌, length, get_or, replicate, slice_index, refl, sym, ap, subst, ◌∙◌, arith, length-append, lit<}
 use Rattle.std.proofs.lemmas.List.{append-nil, length-replicate}
-use Rattle.std.specs.Int.{w32, from_be_bytes}
+use Rattle.std.specs.Int.{w16, w32, from_be_bytes}
 use Rattle.bit_lists.specs.Fields.{AreBytes}
 use Rattle.bit_lists.proofs.ByteLemmas.{AreBytes-append}
 use Rattle.bound_certificate.specs.Private.Texts.{
@@ -43,6 +14,8 @@ use Rattle.bound_certificate.specs.Private.Texts.{
   IsKind,
   IsCount,
   AreCounted,
+  IsLongCount,
+  AreLongCounted,
   IsBody,
   IsNode,
   IsMark,
@@ -138,6 +111,12 @@ ends_count = ends_then (IsByte 0 0) (λ _. IsByte 0 64) (ends_byte 0 0) (λ _ _.
 pub ends_counted : (size : ℕ) → Ends (AreCounted size)
 ends_counted size = ends_then IsCount (λ count. IsBlock (size * count_of count)) ends_count (λ count _. ends_block (size * count_of count))
 
+pub ends_long_count : Ends IsLongCount
+ends_long_count = ends_then (IsByte 0 16) (λ high. IsByte 0 (last_most (slice_index high 0))) (ends_byte 0 16) (λ high _. ends_byte 0 (last_most (slice_index high 0)))
+
+pub ends_long_counted : (size : ℕ) → Ends (AreLongCounted size)
+ends_long_counted size = ends_then IsLongCount (λ count. IsBlock (size * from_be_bytes w16 count)) ends_long_count (λ count _. ends_block (size * from_be_bytes w16 count))
+
 ends_body : (kind : ℕ) → Ends (IsBody kind)
 ends_body zero = ends_nothing
 ends_body (suc zero) = ends_block 4
@@ -145,7 +124,8 @@ ends_body (suc (suc zero)) = ends_counted 16
 ends_body (suc (suc (suc zero))) = ends_byte 0 1
 ends_body (suc (suc (suc (suc zero)))) = ends_nothing
 ends_body (suc (suc (suc (suc (suc zero))))) = ends_counted 24
-ends_body (suc (suc (suc (suc (suc (suc kind)))))) = ends_nothing
+ends_body (suc (suc (suc (suc (suc (suc zero)))))) = ends_long_counted 25
+ends_body (suc (suc (suc (suc (suc (suc (suc kind))))))) = ends_nothing
 
 pub ends_node : (version : ℕ) → Ends (IsNode version)
 ends_node version = ends_then (IsOneOf (IsKind version)) (λ kind. IsBody (slice_index kind 0)) (ends_one (IsKind version)) (λ kind _. ends_body (slice_index kind 0))
@@ -184,6 +164,24 @@ all_counted size =
     let block = some_counted size (first.0 ++ second.0) count in
     ((first.0 ++ second.0) ++ block.0, record { front = first.0 ++ second.0; behind = block.0; joined = refl; first_is = count; second_is = block.1 })
 
+long_zero : IsLongCount (0 ∷ 0 ∷ [])
+long_zero = record {
+  front = 0 ∷ [];
+  behind = 0 ∷ [];
+  joined = refl;
+  first_is = record { byte = 0; allows = (omega arith, omega arith); fits = lit< tt; is = refl };
+  second_is = record { byte = 0; allows = (omega arith, omega arith); fits = lit< tt; is = refl };
+}
+
+pub some_long_counted : (size : ℕ) (count : List ℕ) → IsLongCount count → (x : List ℕ) × IsBlock (size * from_be_bytes w16 count) x
+some_long_counted size count is = (replicate (size * from_be_bytes w16 count) 0, some_block (size * from_be_bytes w16 count))
+
+all_long_counted : (size : ℕ) → (x : List ℕ) × AreLongCounted size x
+all_long_counted size =
+    let count : List ℕ = 0 ∷ 0 ∷ [] in
+    let block = some_long_counted size count long_zero in
+    (count ++ block.0, record { front = count; behind = block.0; joined = refl; first_is = long_zero; second_is = block.1 })
+
 some_body : (kind : ℕ) → (x : List ℕ) × IsBody kind x
 some_body zero = ([], refl)
 some_body (suc zero) = (replicate 4 0, some_block 4)
@@ -191,7 +189,8 @@ some_body (suc (suc zero)) = all_counted 16
 some_body (suc (suc (suc zero))) = some_byte 0 1 (omega arith) (lit< tt)
 some_body (suc (suc (suc (suc zero)))) = ([], refl)
 some_body (suc (suc (suc (suc (suc zero))))) = all_counted 24
-some_body (suc (suc (suc (suc (suc (suc kind)))))) = ([], refl)
+some_body (suc (suc (suc (suc (suc (suc zero)))))) = all_long_counted 25
+some_body (suc (suc (suc (suc (suc (suc (suc kind))))))) = ([], refl)
 
 pub body_of : (kind : List ℕ) → (x : List ℕ) × IsBody (slice_index kind 0) x
 body_of kind = some_body (slice_index kind 0)

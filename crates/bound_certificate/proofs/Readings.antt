@@ -1,45 +1,11 @@
 -- Bytes are read in one way.
-use Rattle.std.proofs.Common.{
-  ◌≡◌,
-  ℕ,
-  zero,
-  suc,
-  ◌+◌,
-  ◌<◌,
-  ◌≤◌,
-  ◌⊎◌,
-  inl,
-  inr,
-  List,
-  [],
-  ◌∷◌,
-  ◌++◌,
-  length,
-  get_or,
-  refl,
-  sym,
-  ap,
-  subst,
-  ◌∙◌,
-  arith,
-  lit<,
-  length-append,
-  append_assoc,
-  Result,
-  Ok,
-  Err,
-  IfOk,
-  IfErr,
-}
+use Rattle.std.proofs.Common.{◌≡◌, ℕ, suc, ◌<◌, ◌≤◌, ◌⊎◌, inl, inr, List, [], ◌∷◌, ◌++◌, length, get_or, refl, sym, ap, subst, ◌∙◌, arith, length-append, append_assoc, Result, Ok, Err, IfOk, IfErr}
 use Rattle.std.proofs.lemmas.Bool.{cases_lt}
 use Rattle.bit_lists.specs.Fields.{AreBytes}
 use Rattle.bound_certificate.specs.declared.cert.Cert.{Cert}
 use Rattle.bound_certificate.specs.declared.fault.CertFormat.{CertFormat}
 use Rattle.bound_certificate.specs.declared.fault.CertFormat.TheVariants.{CertSyntax, OutOfMemory}
-use Rattle.bound_certificate.specs.declared.limits.TheConstants.{CERT_BYTES_MOST}
-use Rattle.bound_certificate.specs.Cert.{IsCert}
 use Rattle.bound_certificate.specs.Reading.{IsCertSyntaxRefusal, CertReading, Holds, RefusedAt, IsCertRead, IsFaultOf, Says}
-use Rattle.bound_certificate.specs.Spelling.{cert_spelling}
 use Rattle.bound_certificate.proofs.Refusals.{longer}
 use Rattle.bound_certificate.proofs.Whole.{one_cert}
 

@@ -1,7 +1,7 @@
 -- Where bytes are refused as the beginning of texts, one behind the other.
 use Rattle.std.proofs.Common.{◌≡◌, ℕ, zero, suc, ◌+◌, ◌<◌, ◌≤◌, List, [], ◌∷◌, ◌++◌, length, get_or, drop, refl, sym, ap, ap₂, subst, ◌∙◌, arith, length-append, append_assoc, ◌⊎◌, inl, inr}
 use Rattle.std.proofs.lemmas.Bool.{cases_lt}
-use Rattle.std.proofs.lemmas.List.{append-nil, append_cancel_left, take_at}
+use Rattle.std.proofs.lemmas.List.{append-nil}
 use Rattle.bit_lists.specs.Fields.{AreBytes}
 use Rattle.bound_certificate.specs.declared.fault.Stop.{Stop}
 use Rattle.bound_certificate.specs.declared.fault.Stop.TheVariants.{At, OutOfMemory}

@@ -1,21 +1,20 @@
 -- Where a certificate is refused, part by part, and that each part can be gone on with.
-use Rattle.std.proofs.Common.{◌≡◌, ℕ, zero, suc, ◌^◌, ◌<◌, ◌≤◌, List, [], ◌∷◌, ◌++◌, length, get_or, replicate, slice_index, refl, sym, ap, subst, ◌∙◌, arith, lit<, append_assoc}
+use Rattle.std.proofs.Common.{◌≡◌, ℕ, ◌^◌, ◌<◌, ◌≤◌, List, [], ◌∷◌, ◌++◌, length, replicate, slice_index, refl, sym, subst, ◌∙◌, arith, lit<, append_assoc}
 use Rattle.std.specs.List.{AllByRecursion}
 use Rattle.std.specs.Int.{w32, to_be_bytes, from_be_bytes}
 use Rattle.std.proofs.lemmas.Nat.{from_be_bytes-to_be_bytes_4}
 use Rattle.bit_lists.specs.Fields.{AreBytes}
 use Rattle.bound_certificate.specs.declared.fault.Stop.{Stop}
-use Rattle.bound_certificate.specs.declared.fault.Stop.TheVariants.{At, OutOfMemory}
 use Rattle.version_table.specs.declared.limits.TheConstants.{NODES_MOST}
 use Rattle.bound_certificate.specs.declared.cert.Cert.{Cert}
 use Rattle.bound_certificate.specs.Cert.{IsCert, NodeMayStand}
 use Rattle.bound_certificate.specs.Spelling.{mark}
-use Rattle.bound_certificate.specs.Private.Texts.{Then, IsBlock, IsByte, IsMark, IsChoice, IsNodeCount, IsNode, AreTexts, IsTree, IsText, IsStop}
+use Rattle.bound_certificate.specs.Private.Texts.{IsBlock, IsByte, IsMark, IsChoice, IsNodeCount, IsNode, AreTexts, IsTree, IsText, IsStop}
 use Rattle.bound_certificate.proofs.Refusals.{stop_first, stop_next, stop_next_bytes, are_bytes_behind, are_bytes_front}
-use Rattle.bound_certificate.proofs.Parts.{ends_byte, ends_block, ends_mark, ends_choice, ends_node_count, some_block, some_byte, some_nodes}
-use Rattle.bound_certificate.proofs.Heads.{is_byte, stop_byte}
+use Rattle.bound_certificate.proofs.Parts.{ends_block, ends_mark, ends_choice, ends_node_count, some_block, some_byte, some_nodes}
+use Rattle.bound_certificate.proofs.Heads.{stop_byte}
 use Rattle.bound_certificate.proofs.Numbers.{node_count_text}
-use Rattle.bound_certificate.proofs.Whole.{AfterMark, AfterVersion, AfterNumbers, mark_text, choice_text, one_or_two}
+use Rattle.bound_certificate.proofs.Whole.{AfterMark, AfterVersion, AfterNumbers, mark_text, choice_text, one_to_three}
 
 -- ---- that there are some
 
@@ -51,7 +50,7 @@ some_after_version version =
 
 some_after_mark : (x : List ℕ) × AfterMark x
 some_after_mark =
-    let version = some_byte 1 2 (omega arith) (lit< tt) in
+    let version = some_byte 1 3 (omega arith) (lit< tt) in
     let rest = some_after_version version.0 in
     (version.0 ++ rest.0, record { front = version.0; behind = rest.0; joined = refl; first_is = version.1; second_is = rest.1 })
 
@@ -85,8 +84,8 @@ stop_mark bytes stop refused = stop_first IsMark (λ _. AfterMark) bytes stop (�
 behind_mark : (bytes rest : List ℕ) (stop : Stop) → bytes ≡ mark ++ rest → IsStop AfterMark rest stop → IsStop IsText bytes stop
 behind_mark bytes rest stop same refused = stop_next IsMark (λ _. AfterMark) bytes mark rest stop ends_mark mark_text same refused
 
-pub stop_version : (bytes rest : List ℕ) (stop : Stop) → bytes ≡ mark ++ rest → IsStop (IsByte 1 2) rest stop → IsStop IsText bytes stop
-stop_version bytes rest stop same refused = behind_mark bytes rest stop same (stop_first (IsByte 1 2) AfterVersion rest stop (λ version _. some_after_version version) refused)
+pub stop_version : (bytes rest : List ℕ) (stop : Stop) → bytes ≡ mark ++ rest → IsStop (IsByte 1 3) rest stop → IsStop IsText bytes stop
+stop_version bytes rest stop same refused = behind_mark bytes rest stop same (stop_first (IsByte 1 3) AfterVersion rest stop (λ version _. some_after_version version) refused)
 
 -- what was read of mark and version
 pub record HasHead (bytes rest : List ℕ) (version : ℕ) : Type 0 where
@@ -94,11 +93,11 @@ pub record HasHead (bytes rest : List ℕ) (version : ℕ) : Type 0 where
   pub mark_is : bytes ≡ mark ++ behind
   pub version_is : behind ≡ version ∷ rest
   pub least : 1 ≤ version
-  pub most : version ≤ 2
+  pub most : version ≤ 3
 
 behind_version : (bytes rest : List ℕ) (version : ℕ) (stop : Stop) → HasHead bytes rest version → IsStop (AfterVersion (version ∷ [])) rest stop → IsStop IsText bytes stop
 behind_version bytes rest version stop head refused =
-    behind_mark bytes head.behind stop head.mark_is (stop_byte 1 2 version AfterVersion head.behind rest stop head.version_is head.least head.most (lit< tt) refused)
+    behind_mark bytes head.behind stop head.mark_is (stop_byte 1 3 version AfterVersion head.behind rest stop head.version_is head.least head.most (lit< tt) refused)
 
 pub stop_numbers : (bytes rest : List ℕ) (version : ℕ) (stop : Stop) → HasHead bytes rest version → IsStop (IsBlock 16) rest stop → IsStop IsText bytes stop
 stop_numbers bytes rest version stop head refused =
@@ -136,7 +135,7 @@ cert_in bytes rest numbers left last cert head bound distortion numbers_are few 
     let count : List ℕ = to_be_bytes w32 (length cert.choice) in
     let choice : AreBytes (cert.choice ++ last) = are_bytes_behind count (cert.choice ++ last) (subst AreBytes choice_is from_choice) in
     record {
-      version = one_or_two cert.version head.least head.most;
+      version = one_to_three cert.version head.least head.most;
       bound = bound;
       distortion = distortion;
       few_units = few;

@@ -1,38 +1,5 @@
 -- Texts of certificates, and the certificates of texts.
-use Rattle.std.proofs.Common.{
-  ◌≡◌,
-  ◌≢◌,
-  ℕ,
-  zero,
-  suc,
-  ◌+◌,
-  ◌*◌,
-  ◌^◌,
-  ◌<◌,
-  ◌≤◌,
-  ◌⊎◌,
-  inl,
-  inr,
-  List,
-  [],
-  ◌∷◌,
-  ◌++◌,
-  length,
-  get_or,
-  take,
-  drop,
-  slice_index,
-  refl,
-  sym,
-  ap,
-  ap₂,
-  subst,
-  ◌∙◌,
-  arith,
-  lit<,
-  length-append,
-  append_assoc,
-}
+use Rattle.std.proofs.Common.{◌≡◌, ℕ, zero, suc, ◌+◌, ◌^◌, ◌<◌, ◌≤◌, ◌⊎◌, inl, inr, List, [], ◌∷◌, ◌++◌, length, get_or, take, drop, slice_index, refl, sym, ap, ap₂, subst, ◌∙◌, arith, lit<, length-append, append_assoc}
 use Rattle.std.specs.List.{flat_map, AllByRecursion}
 use Rattle.std.specs.Int.{w32, w64, to_be_bytes, from_be_bytes}
 use Rattle.std.proofs.lemmas.List.{append-nil}
@@ -46,7 +13,7 @@ use Rattle.bound_certificate.specs.declared.fault.Stop.TheVariants.{At, OutOfMem
 use Rattle.bound_certificate.specs.Cert.{IsCert, NodeMayStand}
 use Rattle.bound_certificate.specs.Spelling.{mark, bytes_of_node, cert_spelling}
 use Rattle.bound_certificate.specs.Reading.{IsCertSyntaxRefusal}
-use Rattle.bound_certificate.specs.Private.Texts.{Then, IsBlock, IsByte, IsMark, IsChoice, IsNodeCount, IsNode, AreTexts, IsTree, IsText, IsRefused, IsStop, IsWholeStop}
+use Rattle.bound_certificate.specs.Private.Texts.{Then, IsBlock, IsByte, IsMark, IsChoice, IsNode, AreTexts, IsTree, IsText, IsRefused, IsStop, IsWholeStop}
 use Rattle.bound_certificate.proofs.Refusals.{Ends, ends_then, same_parts}
 use Rattle.bound_certificate.proofs.Parts.{ends_byte, ends_block, ends_mark, ends_choice, ends_tree}
 use Rattle.bound_certificate.proofs.Heads.{is_byte}
@@ -62,7 +29,7 @@ abbrev pub AfterVersion : List ℕ → List ℕ → Type 0
 AfterVersion version = Then (IsBlock 16) (λ _. AfterNumbers version)
 
 abbrev pub AfterMark : List ℕ → Type 0
-AfterMark = Then (IsByte 1 2) AfterVersion
+AfterMark = Then (IsByte 1 3) AfterVersion
 
 pub mark_text : IsMark mark
 mark_text = record {
@@ -109,9 +76,10 @@ tree_text version nodes some few stand =
 numbers_block : (a b : ℕ) → IsBlock 16 (to_be_bytes w64 a ++ to_be_bytes w64 b)
 numbers_block a b = record { size = refl; are_bytes = AreBytes-append (to_be_bytes w64 a) (to_be_bytes w64 b) (are_bytes_8 a) (are_bytes_8 b) }
 
-version_byte : (version : ℕ) → (version ≡ 1) ⊎ (version ≡ 2) → IsByte 1 2 (version ∷ [])
-version_byte version (inl is) = is_byte 1 2 version (omega (arith, is)) (omega (arith, is)) (lit< tt)
-version_byte version (inr is) = is_byte 1 2 version (omega (arith, is)) (omega (arith, is)) (lit< tt)
+version_byte : (version : ℕ) → (version ≡ 1) ⊎ (version ≡ 2) ⊎ (version ≡ 3) → IsByte 1 3 (version ∷ [])
+version_byte version (inl is) = is_byte 1 3 version (omega (arith, is)) (omega (arith, is)) (lit< tt)
+version_byte version (inr (inl is)) = is_byte 1 3 version (omega (arith, is)) (omega (arith, is)) (lit< tt)
+version_byte version (inr (inr is)) = is_byte 1 3 version (omega (arith, is)) (omega (arith, is)) (lit< tt)
 
 pub cert_text : (cert : Cert) → IsCert cert → IsText (cert_spelling cert)
 unfolding cert_spelling
@@ -186,11 +154,12 @@ mark_is bytes text =
     (text.second_is.joined ∙ ap₂ (λ (a b : List ℕ). a ++ b) (two.is ∙ ap (λ (b : ℕ). b ∷ []) second)
     (text.second_is.second_is.joined ∙ ap₂ (λ (a b : List ℕ). a ++ b) (three.is ∙ ap (λ (b : ℕ). b ∷ []) third) (last.is ∙ ap (λ (b : ℕ). b ∷ []) fourth)))
 
-pub one_or_two : (n : ℕ) → 1 ≤ n → n ≤ 2 → (n ≡ 1) ⊎ (n ≡ 2)
-one_or_two zero some few = absurd (omega (arith, some))
-one_or_two (suc zero) some few = inl refl
-one_or_two (suc (suc zero)) some few = inr refl
-one_or_two (suc (suc (suc n))) some few = absurd (omega (arith, few))
+pub one_to_three : (n : ℕ) → 1 ≤ n → n ≤ 3 → (n ≡ 1) ⊎ (n ≡ 2) ⊎ (n ≡ 3)
+one_to_three zero some few = absurd (omega (arith, some))
+one_to_three (suc zero) some few = inl refl
+one_to_three (suc (suc zero)) some few = inr (inl refl)
+one_to_three (suc (suc (suc zero))) some few = inr (inr refl)
+one_to_three (suc (suc (suc (suc n)))) some few = absurd (omega (arith, few))
 
 pub cert_of_text : (bytes : List ℕ) → IsText bytes → (cert : Cert) × IsCert cert × (cert_spelling cert ≡ bytes)
 unfolding cert_spelling
@@ -213,7 +182,7 @@ cert_of_text bytes text =
     numbers.joined ∙ ap₂ (λ (a b : List ℕ). a ++ b) numbers_are (numbers.second_is.joined ∙ rest) in (
       cert,
       record {
-        version = one_or_two version version_text.allows.0 version_text.allows.1;
+        version = one_to_three version version_text.allows.0 version_text.allows.1;
         bound = bound.1;
         distortion = distortion.1;
         few_units = choice.1;
@@ -229,7 +198,7 @@ cert_of_text bytes text =
 
 pub ends_text : Ends IsText
 ends_text = ends_then IsMark (λ _. AfterMark) ends_mark
-    (λ _ _. ends_then (IsByte 1 2) AfterVersion (ends_byte 1 2)
+    (λ _ _. ends_then (IsByte 1 3) AfterVersion (ends_byte 1 3)
     (λ version _. ends_then (IsBlock 16) (λ _. AfterNumbers version) (ends_block 16)
     (λ _ _. ends_then IsChoice (λ _. IsTree (slice_index version 0)) ends_choice (λ _ _. ends_tree (slice_index version 0)))))
 

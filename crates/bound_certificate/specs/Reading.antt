@@ -1,5 +1,5 @@
 -- What bytes can be: a certificate's, or refused at the first byte that no certificate has there.
-use Rattle.std.specs.Prelude.{◌≡◌, ◌≢◌, ℕ, ◌<◌, ◌≤◌, ◌⊎◌, List, [], ◌∷◌, ◌++◌, length, Result, Ok, Err}
+use Rattle.std.specs.Prelude.{◌≡◌, ◌≢◌, ℕ, ◌<◌, ◌≤◌, ◌⊎◌, List, ◌∷◌, ◌++◌, length, Result, Ok, Err}
 use Rattle.std.specs.List.{AllByRecursion}
 use Rattle.version_table.specs.declared.limits.TheConstants.{NODES_MOST}
 use Rattle.bound_certificate.specs.declared.limits.TheConstants.{CERT_BYTES_MOST}
@@ -44,7 +44,7 @@ Says answer reading = ⊥
 
 -- what can be written: 1 to 1,048,576 nodes of the version, and no more bytes than are read
 pub record IsWritable (cert : Cert) : Type 0 where
-  pub version : (cert.version ≡ 1) ⊎ (cert.version ≡ 2)
+  pub version : (cert.version ≡ 1) ⊎ (cert.version ≡ 2) ⊎ (cert.version ≡ 3)
   pub some_nodes : 1 ≤ length cert.nodes
   pub few_nodes : length cert.nodes ≤ NODES_MOST
   pub nodes : AllByRecursion (IsOfVersion cert.version) cert.nodes

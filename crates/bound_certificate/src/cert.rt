@@ -1,3 +1,4 @@
+use buffer_windows::BufferWindows;
 use dual_bounds::{Multipliers, Windows};
 use list_types::ListOf;
 use version_table::Choice;
@@ -16,12 +17,14 @@ pub enum Node {
     Open,
     /// The bound of these windows.
     Window { with: Windows },
+    /// The bound of these windows that see the buffers.
+    BufferWindow { with: BufferWindows },
 }
 
 /// A plan and the tree that bounds the distortion of every other one.
 #[derive(Drop)]
 pub struct Cert {
-    /// The version of the format, 1 or 2: multipliers stand in 1 alone, windows in 2 alone.
+    /// The version of the format, 1 to 3: multipliers stand in 1 alone, windows in 2 and 3, those that see the buffers in 3 alone.
     pub version: u8,
     /// No choice that the slot rule schedules has less distortion.
     pub bound: u64,

@@ -1,8 +1,8 @@
 //! Certificates as bytes: a plan's choice, and the tree that shows how far it can be from the best one.
 //!
-//! A certificate has one spelling, of version 1 or 2. Here stand its record, the spelling, and both ways between them: what is
+//! A certificate has one spelling, of version 1, 2 or 3. Here stand its record, the spelling, and both ways between them: what is
 //! written is read back, and bytes that no certificate has are refused at the first byte that shows it.
-//! Stands on `dual_bounds`, `version_table` and `list_types`.
+//! Stands on `dual_bounds`, `buffer_windows`, `version_table` and `list_types`.
 #![tactic(auto)]
 
 mod cert;

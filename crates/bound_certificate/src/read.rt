@@ -17,7 +17,7 @@ use std::alloc::Global;
 use version_table::Choice;
 use version_table::limits::NODES_MOST;
 
-/// The certificate that bytes spell, of version 1 or 2, or the first byte that no certificate has there.
+/// The certificate that bytes spell, of version 1, 2 or 3, or the first byte that no certificate has there.
 ///
 /// `CertSyntax` names that byte, counted from 0; where the bytes end too early it is their number. More than `CERT_BYTES_MOST`
 /// bytes are refused at that place before all else. `OutOfMemory` may come at any time.
@@ -73,7 +73,7 @@ fn read_text(alloc: Global, cursor: &mut Cursor<'_>) -> Result<Cert, Stop>
     ensures stop { IfErr result (IsStop IsText cursor.old) }
 {
     read_mark(cursor)?;
-    let version = cursor.byte(1, 2)?;
+    let version = cursor.byte(1, 3)?;
     let numbers = cursor.block(16)?;
     let choice = read_choice(alloc, cursor)?;
     let nodes = read_tree(alloc, cursor, version)?;
@@ -120,7 +120,6 @@ fn copy_of(alloc: Global, bytes: &[u8]) -> Result<ListOf<u8>, OutOfMemory>
 
 /// How many nodes there are, and each of them.
 fn read_tree(alloc: Global, cursor: &mut Cursor<'_>, version: u8) -> Result<ListOf<Node>, Stop>
-    requires { (version ≡ 1) ⊎ (version ≡ 2) }
     ensures some { IfOk result (λ nodes. 1 ≤ length nodes) }
     ensures few { IfOk result (λ nodes. length nodes ≤ NODES_MOST) }
     ensures stand { IfOk result (AllByRecursion (NodeMayStand version)) }
@@ -138,7 +137,6 @@ fn read_nodes(
     version: u8,
     count: u32,
 ) -> Result<ListOf<Node>, Stop>
-    requires { (version ≡ 1) ⊎ (version ≡ 2) }
     ensures count { IfOk result (λ nodes. length nodes ≡ count) }
     ensures stand { IfOk result (AllByRecursion (NodeMayStand version)) }
     ensures next { IfOk result (λ nodes. cursor.old ≡ flat_map bytes_of_node nodes ++ cursor.new) }
@@ -146,7 +144,7 @@ fn read_nodes(
 {
     let mut nodes = ListOf::new(alloc);
     for _read in 0..count {
-        nodes.push(read_node(cursor, version)?)?;
+        nodes.push(read_node(alloc, cursor, version)?)?;
     }
     Ok(nodes)
 }
@@ -167,8 +165,8 @@ fn read_node_count(cursor: &mut Cursor<'_>) -> Result<u32, Stop>
     Ok(u32::from_be_bytes([0, second, third, fourth]))
 }
 
-/// The greatest byte behind this second one of the number of nodes.
-fn last_most(second: u8) -> u8
+/// The greatest byte behind this one, where both are a number of up to 16 times 256.
+pub(crate) fn last_most(second: u8) -> u8
     requires { second ≤ 16 }
     ensures { result ≡ last_most second }
 {

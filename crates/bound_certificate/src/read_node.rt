@@ -1,20 +1,27 @@
-ghost use Rattle.std.specs.Prelude.{◌≡◌, ◌+◌, ◌*◌, ◌≤◌, ◌⊎◌, ◌++◌, ◌∷◌, length, take, drop, IfOk, IfErr, MatchOption};
+ghost use Rattle.std.specs.Prelude.{◌≡◌, ◌⊎◌, ◌↔◌, IsTrue, ◌+◌, ◌*◌, ◌≤◌, ◌++◌, ◌∷◌, length, take, drop, IfOk, IfErr, MatchOption};
 ghost use Rattle.std.specs.List.{flat_map, AllByRecursion};
-ghost use Rattle.std.specs.Int.{w32, to_be_bytes, from_be_bytes};
-ghost use Rattle.bound_certificate.specs.Cert.{IsStatedMultiplier, IsStatedWindow, NodeMayStand};
-ghost use Rattle.bound_certificate.specs.Private.Texts.{AreCounted, IsBody, IsCount, IsKind, IsNode, IsOneOf, IsOfKind, IsStop, code_of};
-ghost use Rattle.bound_certificate.specs.Spelling.{bytes_of_multiplier, bytes_of_node, bytes_of_window};
+ghost use Rattle.std.specs.Int.{w16, w32, to_be_bytes, from_be_bytes};
+ghost use Rattle.buffer_windows.specs.declared.constants.TheConstants.{BUFFER_WINDOWS_MOST};
+ghost use Rattle.bound_certificate.specs.Cert.{IsStatedBufferWindow, IsStatedMultiplier, IsStatedWindow, NodeMayStand};
+ghost use Rattle.bound_certificate.specs.Private.Texts.{AreCounted, AreLongCounted, IsBody, IsCount, IsLongCount, IsKind, IsNode, IsOneOf, IsOfKind, IsStop, code_of};
+ghost use Rattle.bound_certificate.specs.Spelling.{bytes_of_buffer_window, bytes_of_multiplier, bytes_of_node, bytes_of_window};
 
 use crate::cert::Node;
 use crate::cursor::{Cursor, number_at};
 use crate::fault::Stop;
+use crate::read::last_most;
+use buffer_windows::{BufferWindow, BufferWindows};
 use dual_bounds::constants::WINDOWS_MOST;
 use dual_bounds::{Multiplier, Multipliers, Window, Windows};
+use list_types::OutOfMemory;
+use std::alloc::Global;
 
 /// Bytes of a multiplier: its due time and its lambda.
 pub(crate) const MULTIPLIER_BYTES: usize = 16;
 /// Bytes of a window: where it begins, its due time and its lambda.
 pub(crate) const WINDOW_BYTES: usize = 24;
+/// Bytes of a window that sees the buffers: its first slot, due time, programs, tail slot and lambda.
+pub(crate) const BUFFER_WINDOW_BYTES: usize = 25;
 
 /// The kind of a node, which is its first byte.
 #[derive(Clone, Copy)]
@@ -24,17 +31,17 @@ pub(crate) enum Kind {
     Run,
     Open,
     Window,
+    BufferWindow,
 }
 
 /// The next node, of a certificate of this version.
-pub(crate) fn read_node(cursor: &mut Cursor<'_>, version: u8) -> Result<Node, Stop>
-    requires { (version ≡ 1) ⊎ (version ≡ 2) }
+pub(crate) fn read_node(alloc: Global, cursor: &mut Cursor<'_>, version: u8) -> Result<Node, Stop>
     ensures stands { IfOk result (NodeMayStand version) }
     ensures bytes { IfOk result (λ node. cursor.old ≡ bytes_of_node node ++ cursor.new) }
     ensures stop { IfErr result (IsStop (IsNode version) cursor.old) }
 {
     let kind = read_kind(cursor, version)?;
-    read_body(cursor, kind)
+    read_body(alloc, cursor, kind)
 }
 
 /// The next byte, a kind of node of this version.
@@ -61,8 +68,15 @@ fn kind_of(byte: u8, version: u8) -> Option<Kind>
         3 => Some(Kind::Run),
         4 => Some(Kind::Open),
         5 => {
-            if version == 2 {
+            if has_windows(version) {
                 Some(Kind::Window)
+            } else {
+                None
+            }
+        }
+        6 => {
+            if has_buffer_windows(version) {
+                Some(Kind::BufferWindow)
             } else {
                 None
             }
@@ -71,9 +85,23 @@ fn kind_of(byte: u8, version: u8) -> Option<Kind>
     }
 }
 
+/// Whether windows stand in certificates of this version.
+fn has_windows(version: u8) -> bool
+    ensures { IsTrue result ↔ ((version ≡ 2) ⊎ (version ≡ 3)) }
+{
+    version == 2 || version == 3
+}
+
+/// Whether windows that see the buffers stand in certificates of this version.
+fn has_buffer_windows(version: u8) -> bool
+    ensures { IsTrue result ↔ (version ≡ 3) }
+{
+    version == 3
+}
+
 /// The node of this kind, without its first byte.
 #[tactic(auto, unfolding(crate::specs::Spelling::bytes_of_node))]
-fn read_body(cursor: &mut Cursor<'_>, kind: Kind) -> Result<Node, Stop>
+fn read_body(alloc: Global, cursor: &mut Cursor<'_>, kind: Kind) -> Result<Node, Stop>
     ensures kind { IfOk result (IsOfKind kind) }
     ensures bytes { IfOk result (λ node. code_of kind ∷ cursor.old ≡ bytes_of_node node ++ cursor.new) }
     ensures stop { IfErr result (IsStop (IsBody (code_of kind)) cursor.old) }
@@ -97,6 +125,9 @@ fn read_body(cursor: &mut Cursor<'_>, kind: Kind) -> Result<Node, Stop>
         Kind::Open => Ok(Node::Open),
         Kind::Window => Ok(Node::Window {
             with: read_windows(cursor)?,
+        }),
+        Kind::BufferWindow => Ok(Node::BufferWindow {
+            with: read_buffer_windows(alloc, cursor)?,
         }),
     }
 }
@@ -189,6 +220,72 @@ fn window_at(bytes: &[u8], place: usize) -> Window
         due: number_at(bytes, place + 8),
         lambda: number_at(bytes, place + 16),
     }
+}
+
+/// A count of up to 4,096 in the next two bytes.
+fn read_long_count(cursor: &mut Cursor<'_>) -> Result<usize, Stop>
+    ensures next { IfOk result (λ count. cursor.old ≡ to_be_bytes w16 count ++ cursor.new) }
+    ensures few { IfOk result (λ count. count ≤ BUFFER_WINDOWS_MOST) }
+    ensures stop { IfErr result (IsStop IsLongCount cursor.old) }
+{
+    let high = cursor.byte(0, 16)?;
+    let most = last_most(high);
+    let low = cursor.byte(0, most)?;
+    Ok(usize::from(u16::from_be_bytes([high, low])))
+}
+
+/// Counted windows that see the buffers.
+fn read_buffer_windows(alloc: Global, cursor: &mut Cursor<'_>) -> Result<BufferWindows, Stop>
+    ensures few { IfOk result (λ priced. length priced ≤ BUFFER_WINDOWS_MOST) }
+    ensures stated { IfOk result (AllByRecursion IsStatedBufferWindow) }
+    ensures next { IfOk result (λ priced. cursor.old ≡ to_be_bytes w16 (length priced) ++ (flat_map bytes_of_buffer_window priced ++ cursor.new)) }
+    ensures stop { IfErr result (IsStop (AreLongCounted BUFFER_WINDOW_BYTES) cursor.old) }
+{
+    let count = read_long_count(cursor)?;
+    let block = cursor.block(BUFFER_WINDOW_BYTES * count)?;
+    Ok(buffer_windows_in(alloc, block, count)?)
+}
+
+/// The windows that see the buffers in these bytes.
+fn buffer_windows_in(
+    alloc: Global,
+    block: &[u8],
+    count: usize,
+) -> Result<BufferWindows, OutOfMemory>
+    requires size { length block.now ≡ BUFFER_WINDOW_BYTES * count }
+    requires few { count ≤ BUFFER_WINDOWS_MOST }
+    ensures count { IfOk result (λ priced. length priced ≡ count) }
+    ensures stated { IfOk result (AllByRecursion IsStatedBufferWindow) }
+    ensures bytes { IfOk result (λ priced. flat_map bytes_of_buffer_window priced ≡ block.now) }
+{
+    let mut windows = BufferWindows::new(alloc);
+    for i in 0..count {
+        windows.push(buffer_window_at(block, BUFFER_WINDOW_BYTES * i))?;
+    }
+    Ok(windows)
+}
+
+/// The window that sees the buffers in the bytes from a place on.
+fn buffer_window_at(bytes: &[u8], place: usize) -> BufferWindow
+    requires { place + BUFFER_WINDOW_BYTES ≤ length bytes.now }
+    ensures stated { IsStatedBufferWindow result }
+    ensures bytes { bytes_of_buffer_window result ≡ take BUFFER_WINDOW_BYTES (drop place bytes.now) }
+{
+    BufferWindow {
+        first: short_number_at(bytes, place),
+        due: number_at(bytes, place + 4),
+        programs: bytes[place + 12],
+        tail: short_number_at(bytes, place + 13),
+        lambda: number_at(bytes, place + 17),
+    }
+}
+
+/// The number in 4 bytes from a place on.
+fn short_number_at(bytes: &[u8], place: usize) -> u32
+    requires { place + 4 ≤ length bytes.now }
+    ensures { to_be_bytes w32 result ≡ take 4 (drop place bytes.now) }
+{
+    short_number(&bytes[place..place + 4])
 }
 
 /// The number in 4 bytes.

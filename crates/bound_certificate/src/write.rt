@@ -2,11 +2,13 @@ ghost use Rattle.std.specs.Prelude.{◌≡◌, ◌^◌, ◌<◌, ◌≤◌, ◌+
 ghost use Rattle.std.specs.List.{flat_map};
 ghost use Rattle.std.specs.Int.{w16, w32, w64, to_be_bytes};
 ghost use Rattle.bit_lists.specs.Fields.{flag};
+ghost use Rattle.buffer_windows.specs.declared.constants.TheConstants.{BUFFER_WINDOWS_MOST};
 ghost use Rattle.bound_certificate.specs.Cert.{IsCert};
 ghost use Rattle.bound_certificate.specs.Reading.{Holds, IsCertRead, IsWritable};
-ghost use Rattle.bound_certificate.specs.Spelling.{bytes_of_multiplier, bytes_of_node, bytes_of_window, cert_spelling};
+ghost use Rattle.bound_certificate.specs.Spelling.{bytes_of_buffer_window, bytes_of_multiplier, bytes_of_node, bytes_of_window, cert_spelling};
 
 use crate::cert::{Cert, Node};
+use buffer_windows::BufferWindow;
 use dual_bounds::constants::WINDOWS_MOST;
 use dual_bounds::{Multiplier, Window};
 use list_types::{ListOf, OutOfMemory};
@@ -59,6 +61,7 @@ fn push_node(out: &mut Vec<u8>, node: &Node) -> Result<(), OutOfMemory>
         Node::Run { scheduled } => push_run(out, *scheduled),
         Node::Open => push_open(out),
         Node::Window { with } => push_windows(out, with.as_slice()),
+        Node::BufferWindow { with } => push_buffer_windows(out, with.as_slice()),
     }
 }
 
@@ -135,6 +138,43 @@ fn push_window(out: &mut Vec<u8>, window: Window) -> Result<(), OutOfMemory>
     push_number(out, window.from)?;
     push_number(out, window.due)?;
     push_number(out, window.lambda)?;
+    Ok(())
+}
+
+fn push_buffer_windows(out: &mut Vec<u8>, windows: &[BufferWindow]) -> Result<(), OutOfMemory>
+    requires { length windows.now ≤ BUFFER_WINDOWS_MOST }
+    ensures { OnOk result (out.new.items ≡ out.old.items ++ 0x06 ∷ (to_be_bytes w16 (length windows.now) ++ flat_map bytes_of_buffer_window windows.now)) }
+{
+    out.push(6)?;
+    out.extend_from_slice(&(windows.len() as u16).to_be_bytes())?;
+    push_each_buffer_window(out, windows)
+}
+
+fn push_each_buffer_window(out: &mut Vec<u8>, windows: &[BufferWindow]) -> Result<(), OutOfMemory>
+    ensures { OnOk result (out.new.items ≡ out.old.items ++ flat_map bytes_of_buffer_window windows.now) }
+{
+    for window in windows {
+        push_buffer_window(out, *window)?;
+    }
+    Ok(())
+}
+
+fn push_buffer_window(out: &mut Vec<u8>, window: BufferWindow) -> Result<(), OutOfMemory>
+    ensures { OnOk result (out.new.items ≡ out.old.items ++ bytes_of_buffer_window window) }
+{
+    push_short_number(out, window.first)?;
+    push_number(out, window.due)?;
+    out.push(window.programs)?;
+    push_short_number(out, window.tail)?;
+    push_number(out, window.lambda)?;
+    Ok(())
+}
+
+/// A number in 4 bytes.
+fn push_short_number(out: &mut Vec<u8>, number: u32) -> Result<(), OutOfMemory>
+    ensures { OnOk result (out.new.items ≡ out.old.items ++ to_be_bytes w32 number) }
+{
+    out.extend_from_slice(&number.to_be_bytes())?;
     Ok(())
 }
 

@@ -15,7 +15,7 @@ use Rattle.dual_bounds.specs.declared.windows.Window.{Window as PricedWindow}
 use Rattle.bound_certificate.specs.declared.limits.TheConstants.{CERT_BYTES_MOST}
 use Rattle.bound_certificate.specs.declared.cert.Cert.{Cert}
 use Rattle.bound_certificate.specs.declared.cert.Node.{Node}
-use Rattle.bound_certificate.specs.declared.cert.Node.TheVariants.{Branch, Dual, Run, Open, Window}
+use Rattle.bound_certificate.specs.declared.cert.Node.TheVariants.{Branch, Dual, Run, Open, Window, BufferWindow}
 use Rattle.bound_certificate.specs.Cert.{IsOfVersion}
 use Rattle.bound_certificate.specs.Reading.{IsWritable}
 use Rattle.bound_certificate.specs.Spelling.{bytes_of_node, bytes_of_window, cert_spelling}
@@ -35,7 +35,7 @@ each_in_order : (P : Node → Type 0) (nodes : List Node) (next : ℕ → ℕ) (
 each_in_order P nodes next at [] each follows = tt
 each_in_order P nodes next at (x ∷ ids) each follows = (each x follows.1, each_in_order P nodes next (next x) ids each follows.2)
 
-weaker : (P Q : Node → Type 0) (nodes : List Node) → ((node : Node) → P node → Q node) → AllByRecursion P nodes → AllByRecursion Q nodes
+pub weaker : (P Q : Node → Type 0) (nodes : List Node) → ((node : Node) → P node → Q node) → AllByRecursion P nodes → AllByRecursion Q nodes
 weaker P Q [] so all = tt
 weaker P Q (node ∷ nodes) so all = (so node all.0, weaker P Q nodes so all.1)
 
@@ -105,6 +105,7 @@ few_bytes_of (Dual priced) most version few = absurd (one_and_two (sym version))
 few_bytes_of (Run scheduled) most version few = omega (arith, run_bytes scheduled)
 few_bytes_of Open most version few = omega (arith, open_bytes)
 few_bytes_of (Window priced) most version few = omega (arith, node_bytes priced, few)
+few_bytes_of (BufferWindow priced) most version few = absurd (omega (arith, version))
 
 many_windows_bytes : (nodes : List Node) → AllByRecursion (λ (node : Node). IsOfVersion 2 node × (length (windows_in node) ≤ 64)) nodes
     → length (flat_map bytes_of_node nodes) ≤ 1541 * length nodes
@@ -129,25 +130,15 @@ tree_bytes table most nodes limit few each (inr low) =
     (weaker (MayStand table most) (λ (node : Node). IsOfVersion 2 node × (length (windows_in node) ≤ 64)) nodes (λ node is. (is.version, is.windows)) each) in
     omega (arith, bytes, few, low)
 
-few_bytes : (cert : Cert) → length (flat_map bytes_of_node cert.nodes) ≤ 60000000 → length cert.choice ≤ UNITS_MOST → length (cert_spelling cert) ≤ CERT_BYTES_MOST
+pub few_bytes : (cert : Cert) → length (flat_map bytes_of_node cert.nodes) ≤ 60000000 → length cert.choice ≤ UNITS_MOST → length (cert_spelling cert) ≤ CERT_BYTES_MOST
 unfolding cert_spelling
 few_bytes cert tree units =
     let rest : List ℕ = to_be_bytes w32 (length cert.nodes) ++ flat_map bytes_of_node cert.nodes in
     omega (arith, tree, units, length-append cert.choice rest)
 
-pub writable : (table : Table) (most root : ℕ) (cert : Cert) (distortion : ℕ) → IsValidTable table → most ≤ NODES_MOST → cert.version ≡ 2
-    → IsCertTree table most root cert.nodes cert.bound distortion → Fits table cert.choice → IsWritable cert
-writable table most root cert distortion valid limit two tree fits =
-    let units : length cert.choice ≤ UNITS_MOST = subst (λ (n : ℕ). n ≤ UNITS_MOST) (sym (AllZip-long HasVersion (units_of table) cert.choice fits)) valid.units in
-    record {
-      version = inr two;
-      some_nodes = tree.some;
-      few_nodes = omega (arith, tree.few, limit);
-      nodes =
-          subst (λ (v : ℕ). AllByRecursion (IsOfVersion v) cert.nodes) (sym two)
-          (weaker (MayStand table most) (IsOfVersion 2) cert.nodes (λ node is. is.version) tree.each);
-      bytes = few_bytes cert (tree_bytes table most cert.nodes limit tree.few tree.each (cases_lt NODES_WITH_MANY_WINDOWS_MOST most)) units;
-    }
+pub nodes_bytes : (table : Table) (most : ℕ) (nodes : List Node) → most ≤ NODES_MOST → length nodes ≤ most → AllByRecursion (MayStand table most) nodes
+    → length (flat_map bytes_of_node nodes) ≤ 60000000
+nodes_bytes table most nodes limit few each = tree_bytes table most nodes limit few each (cases_lt NODES_WITH_MANY_WINDOWS_MOST most)
 
 -- ---- its clauses
 pub few_windows_in : (table : Table) (most root : ℕ) (nodes : List Node) (bound distortion : ℕ) → IsCertTree table most root nodes bound distortion → HaveFewWindows most nodes

@@ -14,6 +14,7 @@ pub mod Linking
 pub mod Opens
 pub mod Premises
 pub mod Roots
+mod SeenTrees
 pub mod Splits
 pub mod Stepping
 pub mod Trying

@@ -15,7 +15,7 @@ use Rattle.dual_bounds.specs.Values.{value_of_windows}
 use Rattle.dual_bounds.proofs.ValueLaws.{bounds_rise, fixing_more}
 use Rattle.multiplier_search.specs.Windows.{AreSearched}
 use Rattle.bound_certificate.specs.declared.cert.Node.{Node}
-use Rattle.bound_certificate.specs.declared.cert.Node.TheVariants.{Branch, Dual, Run, Open, Window}
+use Rattle.bound_certificate.specs.declared.cert.Node.TheVariants.{Branch, Dual, Run, Open, Window, BufferWindow}
 use Rattle.certificate_checker.specs.Faults.{IsFree, IsSettled, LeavesOne}
 use Rattle.certificate_checker.specs.Shown.{fix, unfixed, versions_of, windows_in}
 use Rattle.certificate_checker.specs.Walk.{IsLeaf}
@@ -47,6 +47,7 @@ leaf_many table (Dual priced) is = tt
 leaf_many table (Run scheduled) is = tt
 leaf_many table Open is = tt
 leaf_many table (Window priced) is = tt
+leaf_many table (BufferWindow priced) is = tt
 
 pub leaf_stands : (table : Table) (most old : ℕ) (fixed : List (Option ℕ)) (windows : List PricedWindow) (leaf : Leaf) → IsLeafOn table fixed windows old leaf
     → (NODES_WITH_MANY_WINDOWS_MOST < most → length windows ≤ FEW_WINDOWS_MOST) → MayStand table most leaf.node

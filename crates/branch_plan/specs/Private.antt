@@ -6,3 +6,4 @@ pub mod Growth
 pub mod Known
 pub mod Leaves
 pub mod Root
+pub mod Seeing

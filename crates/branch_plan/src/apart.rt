@@ -29,6 +29,7 @@ fn price_at(leaf: &Node, due: u64) -> u64 {
         Node::Dual { with: _ } => 0,
         Node::Run { scheduled: _ } => 0,
         Node::Open => 0,
+        Node::BufferWindow { with: _ } => 0,
     }
 }
 

@@ -3,6 +3,7 @@ ghost use Rattle.version_table.specs.Table.{units_of};
 ghost use Rattle.branch_plan.specs.Private.Growth.{ArePaths, AreLinked, IsOrder, node_of};
 
 use bound_certificate::Node;
+use buffer_windows::BufferWindows;
 use dual_bounds::{Fixed, Multipliers, copied, nothing_fixed};
 use list_types::{ListOf, OutOfMemory};
 use std::alloc::Global;
@@ -73,28 +74,31 @@ pub(crate) fn in_order(alloc: Global, arena: &Arena) -> Result<ListOf<Node>, Out
     let mut nodes = ListOf::new(alloc);
     let mut at = 0;
     for _taken in 0..arena.nodes.len() {
-        nodes.push(copy_of(&arena.nodes[at]))?;
+        nodes.push(copy_of(alloc, &arena.nodes[at])?)?;
         at = arena.links[at].next as usize;
     }
     Ok(nodes)
 }
 
-/// The same node.
-fn copy_of(node: &Node) -> Node
-    ensures { result ≡ node.now }
+/// The same node. Fails only for want of memory.
+fn copy_of(alloc: Global, node: &Node) -> Result<Node, OutOfMemory>
+    ensures { IfOk result (λ copy. copy ≡ node.now) }
 {
     match node {
-        Node::Branch { unit } => Node::Branch { unit: *unit },
-        Node::Dual { with } => Node::Dual {
+        Node::Branch { unit } => Ok(Node::Branch { unit: *unit }),
+        Node::Dual { with } => Ok(Node::Dual {
             with: copied_multipliers(with),
-        },
-        Node::Run { scheduled } => Node::Run {
+        }),
+        Node::Run { scheduled } => Ok(Node::Run {
             scheduled: *scheduled,
-        },
-        Node::Open => Node::Open,
-        Node::Window { with } => Node::Window {
+        }),
+        Node::Open => Ok(Node::Open),
+        Node::Window { with } => Ok(Node::Window {
             with: copied(with.as_slice()),
-        },
+        }),
+        Node::BufferWindow { with } => Ok(Node::BufferWindow {
+            with: BufferWindows::copied(alloc, with.as_slice())?,
+        }),
     }
 }
 

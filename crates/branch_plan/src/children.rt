@@ -275,5 +275,6 @@ fn windows_in(node: &Node) -> Windows
         Node::Dual { with: _ } => unreachable!(),
         Node::Run { scheduled: _ } => Windows::new(),
         Node::Open => Windows::new(),
+        Node::BufferWindow { with: _ } => Windows::new(),
     }
 }

@@ -20,5 +20,6 @@ mod open;
 mod owed;
 mod planner;
 mod root;
+mod seeing;
 
 pub use planner::{PlanFault, Planned, Search, plan};

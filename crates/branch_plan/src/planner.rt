@@ -17,6 +17,7 @@ use crate::free::free_runs;
 use crate::known::best_premise;
 use crate::owed::after_owed;
 use crate::root::{relaxation_for, root_windows};
+use crate::seeing::{Seen, seeing};
 use bound_certificate::Cert;
 use dual_bounds::nothing_fixed;
 use list_types::OutOfMemory;
@@ -25,7 +26,7 @@ use std::alloc::Global;
 use thiserror::Error;
 use version_table::Table;
 
-/// A plan with its certificate, of version 2.
+/// A plan with its certificate, of version 3.
 #[derive(Drop)]
 pub struct Planned {
     /// The choice, its distortion, and the tree that bounds it.
@@ -82,7 +83,7 @@ pub fn plan(
     ensures missed { IfErr result (IsMissOfSmallest table.now) }
 
     // The certificate is right, and its bound is true.
-    ensures version { IfOk result (λ planned. planned.cert.version ≡ 2) }
+    ensures version { IfOk result (λ planned. planned.cert.version ≡ 3) }
     ensures written { IfOk result (λ planned. IsWritable planned.cert) }
     ensures head { IfOk result (λ planned. IsHeadRight table.now planned.cert) }
     ensures root { IfOk result (λ planned. ShowsItsBound table.now planned.cert) }
@@ -121,14 +122,16 @@ pub fn plan(
     let start = first.distortion;
     let filled = by_filling(alloc, table, &mut run, first, free)?;
     let known = after_owed(table, &mut run, start, filled, evaluations);
-    let search = ended_by(bound, known.distortion);
+    let shown = Seen { nodes: tree, bound };
+    let seen = seeing(alloc, table, &fixed, shown, known.distortion)?;
+    let search = ended_by(seen.bound, known.distortion);
     Ok(Planned {
         cert: Cert {
-            version: 2,
-            bound,
+            version: 3,
+            bound: seen.bound,
             distortion: known.distortion,
             choice: known.choice,
-            nodes: tree,
+            nodes: seen.nodes,
         },
         search,
     })

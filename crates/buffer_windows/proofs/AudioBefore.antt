@@ -1,49 +1,8 @@
 -- How many packets of an audio stream can go before a window's first slot: no more than its longest front that fits there.
-use Rattle.std.proofs.Common.{
-  ◌≡◌,
-  ℕ,
-  zero,
-  suc,
-  ◌+◌,
-  ◌-◌,
-  ◌*◌,
-  ◌<◌,
-  ◌≤◌,
-  Bool,
-  true,
-  false,
-  cond,
-  not,
-  nat_le,
-  nat_lt,
-  ne_eqb,
-  ◌==◌,
-  ◌&&◌,
-  ◌||◌,
-  All,
-  List,
-  [],
-  ◌∷◌,
-  ◌++◌,
-  length,
-  take,
-  drop,
-  filter,
-  sum_by,
-  count_by,
-  refl,
-  sym,
-  ap,
-  ◌∙◌,
-  inl,
-  inr,
-  lt-ltb,
-  zero-le,
-  arith,
-}
+use Rattle.std.proofs.Common.{◌≡◌, ℕ, zero, suc, ◌+◌, ◌*◌, ◌<◌, ◌≤◌, Bool, true, false, cond, not, nat_le, nat_lt, ne_eqb, ◌==◌, ◌&&◌, ◌||◌, All, List, [], ◌∷◌, ◌++◌, length, take, drop, filter, sum_by, count_by, refl, sym, ap, ◌∙◌, inl, inr, lt-ltb, arith}
 use Rattle.std.specs.List.{list_any, range_with_len}
-use Rattle.std.proofs.lemmas.Bool.{cases_Bool, cases_lt, and_parts, and_from, or_from, le-leb, ltb-true, false≢true, not_from_false}
-use Rattle.std.proofs.lemmas.List.{length-append, length-take-le, take-append-drop, take-append-le}
+use Rattle.std.proofs.lemmas.Bool.{cases_Bool, and_parts, and_from, or_from, le-leb, ltb-true, false≢true, not_from_false}
+use Rattle.std.proofs.lemmas.List.{length-append, take-append-drop, take-append-le}
 use Rattle.std.proofs.lemmas.List.Elements.{All-head, All-tail, All-take, filter-append}
 use Rattle.std.proofs.lemmas.List.Sums.{sum_by-cons, sum_by-take-le, length-filter}
 use Rattle.stream_constants.specs.declared.decoder.TheConstants.{AUDIO_BYTES}
@@ -65,7 +24,7 @@ abbrev pub bytes_after : (time : ℕ) → AudioPacket → ℕ
 bytes_after time packet = cond (nat_lt time packet.gone) packet.bytes 0
 
 -- ---- sums over what passes a test
-none_any : {X : Type 0} (test : X → Bool) (xs : List X) → count_by test xs ≡ 0 → list_any test xs ≡ false
+pub none_any : {X : Type 0} (test : X → Bool) (xs : List X) → count_by test xs ≡ 0 → list_any test xs ≡ false
 none_any test [] none = refl
 none_any test (x ∷ xs) none = elim (cases_Bool (test x)) as (λ _. list_any test (x ∷ xs) ≡ false) [
   | inl yes_is ↦ absurd (omega (arith, sum_by-cons (λ y. cond (test y) 1 0) x xs, ap {B = ℕ} (λ b. cond b 1 0) yes_is))
@@ -116,7 +75,7 @@ counted_bytes slot window (packet ∷ packets) some dues =
 
 -- ---- fronts
 -- what fits before the first slot: each of its fronts does
-fits_there : (slot : ℕ) (window : BufferWindow) (packets : List AudioPacket) (n : ℕ) → 0 < window.first → count_by (is_late slot window) packets ≡ 0
+pub fits_there : (slot : ℕ) (window : BufferWindow) (packets : List AudioPacket) (n : ℕ) → 0 < window.first → count_by (is_late slot window) packets ≡ 0
     → sum_by bytes_of packets ≤ AUDIO_BYTES → fit_before slot window (take n packets) ≡ true
 fits_there slot window packets n some none few =
     let early : count_by (is_late slot window) (take n packets) ≡ 0 =

@@ -1,55 +1,5 @@
 -- Weak duality: no scheduled choice has less distortion than the bound of some windows' value.
-use Rattle.std.proofs.Common.{
-  ◌≡◌,
-  ℕ,
-  zero,
-  suc,
-  ◌+◌,
-  ◌*◌,
-  ◌<◌,
-  ◌≤◌,
-  Bool,
-  true,
-  false,
-  cond,
-  nat_le,
-  nat_lt,
-  ◌&&◌,
-  All,
-  List,
-  [],
-  ◌∷◌,
-  ◌++◌,
-  length,
-  map,
-  filter,
-  get_or,
-  fold,
-  sum,
-  sum_by,
-  Option,
-  Some,
-  None,
-  refl,
-  sym,
-  ap,
-  subst,
-  ◌∙◌,
-  inl,
-  inr,
-  lt-ltb,
-  mul-add,
-  mul-zero,
-  mul-le-mul_left,
-  arith,
-  ℤ,
-  pos,
-  negsuc,
-  ◌+ℤ◌,
-  ◌-ℤ◌,
-  ◌*ℤ◌,
-  ◌≤ℤ◌,
-}
+use Rattle.std.proofs.Common.{◌≡◌, ℕ, zero, suc, ◌+◌, ◌*◌, ◌<◌, ◌≤◌, Bool, true, nat_le, nat_lt, List, [], ◌∷◌, ◌++◌, length, map, filter, get_or, fold, sum, sum_by, Option, Some, None, refl, sym, ap, ◌∙◌, inl, inr, lt-ltb, mul-add, mul-zero, mul-le-mul_left, arith, ℤ, pos, negsuc, ◌+ℤ◌, ◌*ℤ◌, ◌≤ℤ◌}
 use lib.IntN.{pos-*ℤ-pos}
 use Rattle.std.specs.List.{AllZip, list_all, zip}
 use Rattle.std.proofs.lemmas.Bool.{cases_Bool, and_from, le-leb, false≢true}
@@ -61,17 +11,17 @@ use Rattle.version_table.specs.declared.table.Table.{Table}
 use Rattle.version_table.specs.declared.table.Unit.{Unit as CodedUnit}
 use Rattle.version_table.specs.declared.table.Version.{Version}
 use Rattle.version_table.specs.Choice.{Fits, HasVersion, chosen_distortions, distortion_of_choice, least, version_at}
-use Rattle.version_table.specs.Table.{IsValidTable, units_of}
+use Rattle.version_table.specs.Table.{IsValidTable}
 use Rattle.version_table.proofs.Least.{least-le}
 use Rattle.stream_constants.specs.declared.decoder.TheConstants.{EB_UNIT_BYTES}
 use Rattle.slot_rule.specs.Schedule.{IsScheduled}
 use Rattle.slot_rule.proofs.RuleQueues.{units_in}
 use Rattle.dual_bounds.specs.Fixed.{Takes, TakesFixed}
 use Rattle.buffer_windows.specs.declared.windows.BufferWindow.{BufferWindow}
-use Rattle.buffer_windows.specs.Bounds.{IsBoundOrNone, bound_of_value, bound_of_windows}
-use Rattle.buffer_windows.specs.Charges.{FitsBuffer, OwnedUnit, charges, owned_from, owned_units}
-use Rattle.buffer_windows.specs.Room.{room}
-use Rattle.buffer_windows.specs.Values.{byte_parts, cost, least_cost, least_costs, price, value_of_windows, versions_left, worth}
+use Rattle.buffer_windows.specs.Bounds.{IsBoundOrNone, bound_of_byte_value as bound_of_value, bound_of_buffer_windows as bound_of_windows}
+use Rattle.buffer_windows.specs.Charges.{FitsBuffer, OwnedUnit, owned_from, owned_units}
+use Rattle.buffer_windows.specs.Room.{buffer_room as room}
+use Rattle.buffer_windows.specs.Values.{byte_parts, version_cost as cost, least_owned_cost as least_cost, least_owned_costs as least_costs, version_price as price, value_of_buffer_windows as value_of_windows, versions_left, buffer_worth as worth}
 use Rattle.buffer_windows.proofs.VersionsFit.{versions_fit}
 use Rattle.buffer_windows.proofs.Weights.{own, unit_charged}
 use Rattle.buffer_windows.proofs.WindowLaw.{windows_hold}

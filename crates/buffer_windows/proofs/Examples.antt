@@ -1,19 +1,18 @@
 -- The worked examples, computed from the definitions: windows that are full to the byte, and one byte more that misses.
-use Rattle.std.proofs.Common.{◌≡◌, ℕ, ◌+◌, ◌*◌, ◌<◌, true, false, List, [], ◌∷◌, replicate, Option, Some, None, pos, negsuc, refl, arith}
+use Rattle.std.proofs.Common.{◌≡◌, ℕ, ◌+◌, ◌*◌, true, false, List, [], ◌∷◌, replicate, Some, None, pos, negsuc, refl, arith}
 use Rattle.std.specs.Int.{div_ceil}
 use Rattle.version_table.specs.declared.table.AudioPacket.{AudioPacket}
 use Rattle.version_table.specs.declared.table.Unit.{Unit as CodedUnit}
 use Rattle.version_table.specs.declared.table.Version.{Version}
-use Rattle.version_table.specs.declared.table.ProgramRow.{ProgramRow}
 use Rattle.version_table.specs.declared.table.Table.{Table}
 use Rattle.slot_rule.specs.declared.row.Row.{Row}
 use Rattle.slot_rule.specs.Schedule.{IsFirstMiss, IsScheduled}
 use Rattle.slot_rule.proofs.RuleRun.{Run, Clean, Missed, first_rows, IsSchedule-from_run, IsFirstMiss-from_run}
 use Rattle.buffer_windows.specs.declared.windows.BufferWindow.{BufferWindow}
-use Rattle.buffer_windows.specs.Bounds.{bound_of_value, bound_of_windows}
+use Rattle.buffer_windows.specs.Bounds.{bound_of_byte_value as bound_of_value, bound_of_buffer_windows as bound_of_windows}
 use Rattle.buffer_windows.specs.Charges.{charges}
-use Rattle.buffer_windows.specs.Room.{audio_slots, buffer_bytes, free_slots, longest_before, mb_bytes, room}
-use Rattle.buffer_windows.specs.Values.{least_cost, least_costs, price, value_of_windows, worth}
+use Rattle.buffer_windows.specs.Room.{audio_slots, buffer_bytes, free_window_slots as free_slots, longest_before, buffer_room as room}
+use Rattle.buffer_windows.specs.Values.{least_owned_cost as least_cost, least_owned_costs as least_costs, version_price as price, value_of_buffer_windows as value_of_windows, buffer_worth as worth}
 use Rattle.buffer_windows.specs.Windows.{IsBufferWindow, is_fresh, is_held, stop, without_buffers}
 use Rattle.dual_bounds.proofs.Examples.{unit, packet}
 use Rattle.slot_rule.proofs.RuleExamples.{rows_in}

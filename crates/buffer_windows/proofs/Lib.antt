@@ -1,7 +1,13 @@
 pub mod AudioBefore
+mod BuffersFrom
+mod Counted
 pub mod Duality
 pub mod Examples
+mod FreeBetween
+mod Fronts
 pub mod Held
+mod LastDue
+mod OwnedCosts
 pub mod Parts
 pub mod PlainCosts
 pub mod PlainRooms

@@ -1,62 +1,6 @@
 -- What is counted of one stream's packets: before the window's first slot, in its slots, and behind its tail.
-use Rattle.std.proofs.Common.{
-  ◌≡◌,
-  ℕ,
-  zero,
-  suc,
-  ◌+◌,
-  ◌-◌,
-  ◌*◌,
-  ◌/◌,
-  ◌<◌,
-  ◌≤◌,
-  ◌⊎◌,
-  Bool,
-  true,
-  false,
-  cond,
-  eqb,
-  ne_eqb,
-  leb,
-  nat_le,
-  nat_lt,
-  ◌==◌,
-  ◌&&◌,
-  ◌||◌,
-  All,
-  List,
-  [],
-  ◌∷◌,
-  ◌++◌,
-  length,
-  map,
-  max,
-  fold,
-  filter,
-  get_or,
-  take,
-  drop,
-  count_by,
-  sum_by,
-  slice_get,
-  Some,
-  refl,
-  sym,
-  ap,
-  append_assoc,
-  subst,
-  ◌∙◌,
-  inl,
-  inr,
-  lt-ltb,
-  le-ltb,
-  length-take,
-  length-drop,
-  mul-le-mul_right,
-  arith,
-}
-use Rattle.std.specs.List.{AllZip}
-use Rattle.std.proofs.lemmas.Bool.{cases_Bool, cases_lt, and_parts, and_left, and_right, or_from, cond-true, lt-leb, le-leb, ltb-true, leb-true, false≢true}
+use Rattle.std.proofs.Common.{◌≡◌, ℕ, zero, suc, ◌+◌, ◌-◌, ◌*◌, ◌/◌, ◌<◌, ◌≤◌, Bool, true, false, cond, ne_eqb, nat_le, nat_lt, ◌==◌, ◌&&◌, ◌||◌, All, List, [], ◌∷◌, ◌++◌, length, map, max, fold, filter, get_or, take, drop, count_by, sum_by, slice_get, Some, refl, sym, ap, append_assoc, subst, ◌∙◌, inl, inr, lt-ltb, le-ltb, length-take, length-drop, mul-le-mul_right, arith}
+use Rattle.std.proofs.lemmas.Bool.{cases_Bool, cases_lt, and_parts, and_left, and_right, or_from, cond-true, lt-leb, le-leb, ltb-true, false≢true}
 use Rattle.std.proofs.lemmas.List.{length-append, take-append-drop, take_all}
 use Rattle.std.proofs.lemmas.List.Concat.{flat_map-append}
 use Rattle.std.proofs.lemmas.List.Elements.{All-weaker}
@@ -64,31 +8,29 @@ use Rattle.std.proofs.lemmas.List.Sums.{sum_by-append, length-filter}
 use Rattle.std.proofs.lemmas.Nat.{le-div}
 use Rattle.std.proofs.lemmas.Option.{slice_get_cases}
 use Rattle.stream_constants.specs.declared.clock.TheConstants.{SUBTICKS_PER_TICK}
-use Rattle.stream_constants.specs.declared.decoder.TheConstants.{AUDIO_BYTES, EB_UNIT_BYTES, HOLD_TICKS, MB_SUBTICKS}
+use Rattle.stream_constants.specs.declared.decoder.TheConstants.{AUDIO_BYTES, EB_UNIT_BYTES, MB_SUBTICKS}
 use Rattle.stream_constants.specs.declared.packets.TheConstants.{PAYLOAD_BYTES}
 use Rattle.version_table.specs.declared.table.AudioPacket.{AudioPacket}
 use Rattle.version_table.specs.declared.table.ProgramRow.{ProgramRow}
 use Rattle.version_table.specs.declared.table.Table.{Table}
 use Rattle.version_table.specs.declared.table.Unit.{Unit as CodedUnit}
-use Rattle.version_table.specs.Choice.{Fits}
-use Rattle.version_table.specs.Table.{IsValidAudio, IsValidPacket, IsValidTable}
+use Rattle.version_table.specs.Table.{IsValidAudio, IsValidPacket}
 use Rattle.slot_rule.specs.declared.queue_kind.QueueKind.TheVariants.{Video, Audio}
 use Rattle.slot_rule.specs.declared.queued_packet.QueuedPacket.{QueuedPacket}
 use Rattle.slot_rule.specs.declared.row.Row.{Row}
 use Rattle.slot_rule.specs.Buffers.{is_of, outstanding}
-use Rattle.slot_rule.specs.Queues.{Queue, audio_of, queues_of, video_queue}
-use Rattle.slot_rule.specs.Schedule.{AllSent, FollowRule, IsSchedule, NoMiss}
+use Rattle.slot_rule.specs.Queues.{Queue, audio_of, queues_of}
+use Rattle.slot_rule.specs.Schedule.{FollowRule, IsSchedule, NoMiss}
 use Rattle.slot_rule.proofs.RuleRows.{FollowRule-take}
 use Rattle.slot_rule.proofs.RuleSent.{FollowRule-sent, SentFirst, packet_of, packets_sent, payload_after, outstanding-sent}
-use Rattle.slot_rule.proofs.RuleUnits.{IsOfUnit}
 use Rattle.slot_rule.proofs.RuleVideo.{HasSizes, packets_from, packets_from-each}
 use Rattle.dual_bounds.specs.declared.constants.TheConstants.{MARGIN_TICKS}
 use Rattle.buffer_windows.specs.declared.windows.BufferWindow.{BufferWindow}
-use Rattle.buffer_windows.specs.Room.{eb_bytes, is_counted, last_due, longest_before, mb_bytes, slots_taken}
+use Rattle.buffer_windows.specs.Room.{counted_eb_bytes as eb_bytes, is_counted, last_due, longest_before, mb_bytes, slots_taken}
 use Rattle.buffer_windows.specs.Windows.{counts_buffer, is_fresh, is_held, latest, stop}
 use Rattle.buffer_windows.proofs.AudioBefore.{bytes_after, front_fits, is_late}
 use Rattle.buffer_windows.proofs.Held.{held_fits}
-use Rattle.buffer_windows.proofs.Rows.{EachFrom, EachFrom-drop, EachFrom-take, Stands, StandsIn, schedule_stands, sum_of_none, sums_le}
+use Rattle.buffer_windows.proofs.Rows.{EachFrom, EachFrom-drop, EachFrom-take, Stands, StandsIn, sum_of_none, sums_le}
 use Rattle.buffer_windows.proofs.Tail.{Gives, bytes_by, payload_by, tail_gives}
 use Rattle.buffer_windows.proofs.Weights.{audio_counted, audio_weight, counted_due, numbered, pick, sum-numbered, take-numbered, video_weight}
 

@@ -1,58 +1,5 @@
 -- Windows of time, taken as windows that count no buffer: no less charged, and no lesser value.
-use Rattle.std.proofs.Common.{
-  ◌≡◌,
-  ℕ,
-  zero,
-  suc,
-  ◌+◌,
-  ◌-◌,
-  ◌*◌,
-  ◌<◌,
-  ◌≤◌,
-  Bool,
-  true,
-  false,
-  cond,
-  nat_le,
-  nat_lt,
-  ◌==◌,
-  ◌&&◌,
-  All,
-  List,
-  [],
-  ◌∷◌,
-  ◌++◌,
-  length,
-  map,
-  filter,
-  get_or,
-  fold,
-  min,
-  sum_by,
-  Option,
-  Some,
-  None,
-  refl,
-  sym,
-  ap,
-  ◌∙◌,
-  inl,
-  inr,
-  lt-ltb,
-  eq-eqb,
-  mul-add,
-  mul-zero,
-  mul_comm,
-  mul_left_comm,
-  mul-le-mul_left,
-  arith,
-  ℤ,
-  pos,
-  ◌+ℤ◌,
-  ◌-ℤ◌,
-  ◌*ℤ◌,
-  ◌≤ℤ◌,
-}
+use Rattle.std.proofs.Common.{◌≡◌, ℕ, zero, suc, ◌+◌, ◌*◌, ◌<◌, ◌≤◌, Bool, true, false, nat_le, nat_lt, ◌==◌, All, List, [], ◌∷◌, ◌++◌, length, map, filter, get_or, fold, min, Option, Some, None, refl, sym, ap, ◌∙◌, inl, inr, lt-ltb, eq-eqb, mul-add, mul-zero, mul_comm, mul_left_comm, arith, ℤ, pos, ◌+ℤ◌, ◌-ℤ◌, ◌*ℤ◌, ◌≤ℤ◌}
 use lib.IntN.{pos-*ℤ-pos, zero-*ℤ, *ℤ-zero, suc_ℤ-*ℤ}
 use Rattle.std.specs.List.{list_all, zip}
 use Rattle.std.specs.Int.{div_ceil}
@@ -61,7 +8,7 @@ use Rattle.std.proofs.lemmas.Int.{ints}
 use Rattle.std.proofs.lemmas.List.{get_or-map, length-map}
 use Rattle.std.proofs.lemmas.List.Elements.{All-cons, All-head, All-tail}
 use Rattle.std.proofs.lemmas.List.Sums.{sum_by-cons}
-use Rattle.stream_constants.specs.declared.decoder.TheConstants.{EB_UNIT_BYTES, HOLD_TICKS}
+use Rattle.stream_constants.specs.declared.decoder.TheConstants.{EB_UNIT_BYTES}
 use Rattle.stream_constants.specs.declared.packets.TheConstants.{PAYLOAD_BYTES}
 use Rattle.version_table.specs.declared.table.ProgramRow.{ProgramRow}
 use Rattle.version_table.specs.declared.table.Table.{Table}
@@ -71,7 +18,6 @@ use Rattle.version_table.specs.Choice.{least, version_at}
 use Rattle.version_table.specs.Table.{IsValidTable, units_of}
 use Rattle.version_table.proofs.Least.{least-le}
 use Rattle.slot_rule.proofs.RuleQueues.{units_in}
-use Rattle.dual_bounds.specs.declared.constants.TheConstants.{DISTORTION_PARTS}
 use Rattle.dual_bounds.specs.declared.windows.Window.{Window}
 use Rattle.dual_bounds.specs.Room.{is_within, room as room_of_time}
 use Rattle.dual_bounds.specs.Values.{
@@ -87,9 +33,9 @@ use Rattle.dual_bounds.specs.Values.{
 use Rattle.dual_bounds.proofs.Charges.{price-more, worth-more as worth_of_time-more}
 use Rattle.buffer_windows.specs.declared.windows.BufferWindow.{BufferWindow}
 use Rattle.buffer_windows.specs.Bounds.{each_has_left}
-use Rattle.buffer_windows.specs.Charges.{OwnedUnit, charge, owned_from, owned_units}
-use Rattle.buffer_windows.specs.Room.{room}
-use Rattle.buffer_windows.specs.Values.{byte_parts, cost, least_cost, least_costs, price, value_of_windows, versions_left, worth}
+use Rattle.buffer_windows.specs.Charges.{OwnedUnit, charged_bytes as charge, owned_from, owned_units}
+use Rattle.buffer_windows.specs.Room.{buffer_room as room}
+use Rattle.buffer_windows.specs.Values.{version_cost as cost, least_owned_cost as least_cost, least_owned_costs as least_costs, version_price as price, value_of_buffer_windows as value_of_windows, versions_left, buffer_worth as worth}
 use Rattle.buffer_windows.specs.Windows.{is_fresh, is_held, latest, stop, without_buffers}
 use Rattle.buffer_windows.proofs.Duality.{has_left, worth-more}
 use Rattle.buffer_windows.proofs.PlainRooms.{fresh_from, stops_rise}

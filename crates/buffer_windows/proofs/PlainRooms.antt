@@ -1,71 +1,11 @@
 -- The room of a window of time, taken as a window that counts no buffer: in bytes no more than its packets have.
-use Rattle.std.proofs.Common.{
-  ◌≡◌,
-  ℕ,
-  zero,
-  suc,
-  ◌+◌,
-  ◌-◌,
-  ◌*◌,
-  ◌/◌,
-  ◌%◌,
-  ◌^◌,
-  ◌<◌,
-  ◌≤◌,
-  Bool,
-  true,
-  false,
-  cond,
-  not,
-  nat_le,
-  nat_lt,
-  ◌==◌,
-  ◌&&◌,
-  ◌||◌,
-  max,
-  min,
-  All,
-  List,
-  [],
-  ◌∷◌,
-  ◌++◌,
-  length,
-  map,
-  take,
-  drop,
-  filter,
-  fold,
-  count_by,
-  sum_by,
-  is_none,
-  refl,
-  sym,
-  ap,
-  ◌∙◌,
-  inl,
-  inr,
-  lt-ltb,
-  eq-eqb,
-  add-zero,
-  le_trans,
-  lt_of_lt_of_le,
-  div-le_self,
-  length-take,
-  length-drop,
-  div-add-mod',
-  div-mul-le_self,
-  mod-lt,
-  mul-le-mul_right,
-  suc-mul,
-  arith,
-}
+use Rattle.std.proofs.Common.{◌≡◌, ℕ, zero, suc, ◌+◌, ◌-◌, ◌*◌, ◌/◌, ◌%◌, ◌^◌, ◌<◌, ◌≤◌, Bool, true, false, cond, not, nat_le, nat_lt, ◌==◌, ◌&&◌, ◌||◌, max, All, List, [], ◌∷◌, ◌++◌, length, map, take, drop, filter, fold, count_by, sum_by, is_none, refl, sym, ap, ◌∙◌, inl, inr, lt-ltb, eq-eqb, add-zero, lt_of_lt_of_le, div-le_self, length-take, length-drop, div-add-mod', div-mul-le_self, mod-lt, mul-le-mul_right, suc-mul, arith}
 use Rattle.std.specs.List.{enumerate_from, flat_map, list_any, range_with_len}
 use Rattle.std.specs.Int.{div_ceil}
-use Rattle.std.proofs.lemmas.Bool.{cases_Bool, cases_lt, cases_eq, and_parts, and_from, and_right, cond-false, or_parts, or_left, or_right, le-leb, leb-true, lt-leb, le-ltb, ltb-true, not-true, ne_eqb, false≢true, false_from_ne_true}
+use Rattle.std.proofs.lemmas.Bool.{cases_Bool, cases_lt, and_parts, and_from, and_right, cond-false, or_parts, or_left, or_right, le-leb, leb-true, lt-leb, le-ltb, ltb-true, not-true, ne_eqb, false≢true, false_from_ne_true}
 use Rattle.std.proofs.lemmas.Nat.{le-div}
-use Rattle.std.proofs.lemmas.List.{take-append-drop, length-append}
 use Rattle.std.proofs.lemmas.List.Elements.{All-cons, All-head, All-tail, All-take, All-weaker}
-use Rattle.std.proofs.lemmas.List.Sums.{sum_by-cons, sum_by-append, sum_by_push, sum_by-take-drop, count_by-le-length, length-filter}
+use Rattle.std.proofs.lemmas.List.Sums.{sum_by-cons, sum_by-append, sum_by_push, sum_by-take-drop, count_by-le-length}
 use Rattle.stream_constants.specs.declared.decoder.TheConstants.{AUDIO_BYTES, EB_UNIT_BYTES, HOLD_TICKS}
 use Rattle.version_table.specs.declared.table.AudioPacket.{AudioPacket}
 use Rattle.version_table.specs.declared.table.ProgramRow.{ProgramRow}
@@ -76,9 +16,8 @@ use Rattle.dual_bounds.specs.declared.constants.TheConstants.{MARGIN_TICKS}
 use Rattle.dual_bounds.specs.declared.windows.Window.{Window}
 use Rattle.dual_bounds.specs.Room.{audio_due, is_within, serves, free_slots as free_slots_of_time}
 use Rattle.dual_bounds.proofs.Ranges.{count_below, count_below-more, count_below-within, range_more}
-use Rattle.buffer_windows.specs.declared.windows.BufferWindow.{BufferWindow}
-use Rattle.buffer_windows.specs.Room.{audio_slots, buffer_bytes, eb_bytes, fit_before, free_slots, is_counted, last_due, longest_before, mb_bytes, slots_taken}
-use Rattle.buffer_windows.specs.Windows.{counts_buffer, latest, stop, without_buffers}
+use Rattle.buffer_windows.specs.Room.{audio_slots, buffer_bytes, counted_eb_bytes as eb_bytes, fit_before, free_window_slots as free_slots, is_counted, last_due, mb_bytes, slots_taken}
+use Rattle.buffer_windows.specs.Windows.{latest, stop, without_buffers}
 use Rattle.buffer_windows.proofs.Rows.{is_free}
 
 -- ---- the first slot

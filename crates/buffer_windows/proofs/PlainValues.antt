@@ -1,29 +1,5 @@
 -- Windows of time, taken as windows that count no buffer: no more room, and no less charged.
-use Rattle.std.proofs.Common.{
-  ◌≡◌,
-  ℕ,
-  suc,
-  ◌+◌,
-  ◌-◌,
-  ◌*◌,
-  ◌<◌,
-  ◌≤◌,
-  List,
-  refl,
-  ap,
-  ◌∙◌,
-  inl,
-  inr,
-  mul-add,
-  arith,
-  ℤ,
-  pos,
-  negsuc,
-  neg_ℤ,
-  ◌-ℤ◌,
-  ◌*ℤ◌,
-  ◌≤ℤ◌,
-}
+use Rattle.std.proofs.Common.{◌≡◌, ℕ, suc, ◌+◌, ◌-◌, ◌*◌, ◌<◌, ◌≤◌, ap, ◌∙◌, inl, inr, mul-add, arith, pos, negsuc, ◌-ℤ◌, ◌*ℤ◌, ◌≤ℤ◌}
 use lib.IntN.{pos-*ℤ-pos, pos-*ℤ-negsuc}
 use Rattle.std.proofs.lemmas.Bool.{cases_lt}
 use Rattle.std.proofs.lemmas.Int.{ints}
@@ -32,7 +8,7 @@ use Rattle.version_table.specs.declared.table.Table.{Table}
 use Rattle.version_table.specs.Table.{IsValidTable}
 use Rattle.dual_bounds.specs.declared.windows.Window.{Window}
 use Rattle.dual_bounds.specs.Room.{audio_due, free_slots as free_slots_of_time, room as room_of_time}
-use Rattle.buffer_windows.specs.Room.{audio_slots, buffer_bytes, free_slots, room}
+use Rattle.buffer_windows.specs.Room.{audio_slots, buffer_bytes, free_window_slots as free_slots, buffer_room as room}
 use Rattle.buffer_windows.specs.Windows.{without_buffers}
 use Rattle.buffer_windows.proofs.PlainRooms.{audio_le, buffers_none, free_le}
 

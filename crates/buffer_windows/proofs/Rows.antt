@@ -1,41 +1,5 @@
 -- What each packet keeps that stands in a row of a schedule, by the number of its slot, and how many slots packets have.
-use Rattle.std.proofs.Common.{
-  ◌≡◌,
-  ℕ,
-  zero,
-  suc,
-  ◌+◌,
-  ◌*◌,
-  ◌<◌,
-  ◌≤◌,
-  Bool,
-  true,
-  false,
-  cond,
-  eqb,
-  nat_le,
-  List,
-  [],
-  ◌∷◌,
-  ◌++◌,
-  length,
-  take,
-  drop,
-  count_by,
-  sum_by,
-  None,
-  is_none,
-  refl,
-  sym,
-  ap,
-  subst,
-  ◌∙◌,
-  inl,
-  inr,
-  add-zero,
-  append_assoc,
-  arith,
-}
+use Rattle.std.proofs.Common.{◌≡◌, ℕ, zero, suc, ◌+◌, ◌*◌, ◌<◌, ◌≤◌, Bool, cond, eqb, nat_le, List, [], ◌∷◌, ◌++◌, length, take, drop, count_by, sum_by, None, is_none, refl, sym, ap, subst, ◌∙◌, inl, inr, add-zero, append_assoc, arith}
 use Rattle.std.specs.List.{range_with_len}
 use Rattle.std.proofs.lemmas.Bool.{cases_Bool, cases_lt, cases_eq, le-leb, lt-leb}
 use Rattle.std.proofs.lemmas.List.{length_push}

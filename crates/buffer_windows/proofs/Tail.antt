@@ -1,46 +1,6 @@
 -- Behind a slot a program's MB passes on no more bytes than it has time for until the last of them is due.
-use Rattle.std.proofs.Common.{
-  ◌≡◌,
-  ℕ,
-  suc,
-  ◌+◌,
-  ◌-◌,
-  ◌*◌,
-  ◌/◌,
-  ◌<◌,
-  ◌≤◌,
-  ◌⊎◌,
-  All,
-  cond,
-  leb,
-  List,
-  [],
-  ◌∷◌,
-  ◌++◌,
-  length,
-  map,
-  max,
-  sum,
-  eqb,
-  sum_by,
-  count_by,
-  slice_get,
-  Some,
-  refl,
-  sym,
-  ap,
-  subst,
-  ◌∙◌,
-  inl,
-  inr,
-  append-nil,
-  append_assoc,
-  add-mul,
-  mul_assoc,
-  mul-le-mul_right,
-  arith,
-}
-use Rattle.std.proofs.lemmas.Bool.{cases_Bool, cases_lt, cases_eq, le-leb, lt-leb}
+use Rattle.std.proofs.Common.{◌≡◌, ℕ, ◌+◌, ◌-◌, ◌*◌, ◌<◌, ◌≤◌, ◌⊎◌, All, cond, leb, List, [], ◌∷◌, ◌++◌, length, map, max, sum, eqb, sum_by, count_by, slice_get, Some, refl, sym, ap, subst, ◌∙◌, inl, inr, append-nil, append_assoc, add-mul, mul_assoc, mul-le-mul_right, arith}
+use Rattle.std.proofs.lemmas.Bool.{cases_Bool, cases_lt, cases_eq, lt-leb}
 use Rattle.std.proofs.lemmas.Nat.{le-div}
 use Rattle.std.proofs.lemmas.List.{length_push, length-append, length-map, map-append}
 use Rattle.std.proofs.lemmas.List.Sums.{sum_by-cons, sum_by-append, sum_by_push, sum-map}

@@ -1,50 +1,9 @@
 -- Each version of a scheduled choice fits into its program's elementary buffer: all of it is there right before it is removed.
-use Rattle.std.proofs.Common.{
-  ◌≡◌,
-  ℕ,
-  suc,
-  ◌+◌,
-  ◌-◌,
-  ◌*◌,
-  ◌/◌,
-  ◌<◌,
-  ◌≤◌,
-  cond,
-  eqb,
-  eq-eqb,
-  ne_eqb,
-  All,
-  List,
-  [],
-  ◌∷◌,
-  ◌++◌,
-  length,
-  map,
-  take,
-  drop,
-  sum,
-  sum_by,
-  slice_get,
-  Some,
-  refl,
-  sym,
-  ap,
-  ◌∙◌,
-  inl,
-  inr,
-  lt-ltb,
-  add-zero,
-  length-take,
-  mul-le-mul_right,
-  div-mul-le_self,
-  le_trans,
-  arith,
-}
-use Rattle.std.specs.List.{AllZip, enumerate_from, flat_map}
-use Rattle.std.proofs.lemmas.Bool.{cases_Bool, cases_eq, cases_lt}
+use Rattle.std.proofs.Common.{◌≡◌, ℕ, suc, ◌+◌, ◌-◌, ◌*◌, ◌/◌, ◌<◌, ◌≤◌, cond, eqb, eq-eqb, ne_eqb, List, [], ◌∷◌, ◌++◌, length, map, take, drop, sum, sum_by, slice_get, Some, refl, sym, ap, ◌∙◌, inl, inr, lt-ltb, add-zero, length-take, mul-le-mul_right, div-mul-le_self, le_trans, arith}
+use Rattle.std.specs.List.{AllZip, enumerate_from}
+use Rattle.std.proofs.lemmas.Bool.{cases_eq, cases_lt}
 use Rattle.std.proofs.lemmas.List.{length-map, take-append-drop}
 use Rattle.std.proofs.lemmas.List.Concat.{flat_map-append}
-use Rattle.std.proofs.lemmas.List.Elements.{All-head, All-tail}
 use Rattle.std.proofs.lemmas.List.Sums.{sum_by-cons, sum_by-append}
 use Rattle.std.proofs.lemmas.Nat.{le-div}
 use Rattle.stream_constants.specs.declared.decoder.TheConstants.{EB_UNIT_BYTES}
@@ -52,19 +11,18 @@ use Rattle.version_table.specs.declared.table.ProgramRow.{ProgramRow}
 use Rattle.version_table.specs.declared.table.Table.{Table}
 use Rattle.version_table.specs.declared.table.Unit.{Unit as CodedUnit}
 use Rattle.version_table.specs.Choice.{Fits, HasVersion, version_at}
-use Rattle.version_table.specs.Table.{IsValidProgram, IsValidTable}
+use Rattle.version_table.specs.Table.{IsValidTable}
 use Rattle.slot_rule.specs.declared.queue_kind.QueueKind.TheVariants.{Video}
 use Rattle.slot_rule.specs.declared.queued_packet.QueuedPacket.{QueuedPacket}
 use Rattle.slot_rule.specs.declared.row.Row.{Row}
 use Rattle.slot_rule.specs.Buffers.{outstanding}
-use Rattle.slot_rule.specs.Queues.{Queue, audio_of, payloads, queues_from, queues_of, unit_packets, video_queue}
+use Rattle.slot_rule.specs.Queues.{audio_of, payloads, queues_from, queues_of, unit_packets, video_queue}
 use Rattle.slot_rule.specs.Schedule.{IsSchedule, IsScheduled}
 use Rattle.slot_rule.proofs.RuleQueues.{fits_rest, units_in}
 use Rattle.slot_rule.proofs.RuleRows.{FollowRule-take}
 use Rattle.slot_rule.proofs.RuleSent.{packet_of, packets_sent, payload_after, outstanding-sent}
 use Rattle.slot_rule.proofs.RuleUnits.{piece_of}
 use Rattle.slot_rule.proofs.RuleVideo.{packets_from}
-use Rattle.dual_bounds.specs.declared.constants.TheConstants.{MARGIN_TICKS}
 use Rattle.buffer_windows.specs.Charges.{FitsBuffer, OwnedUnit, owned_from, owned_units}
 use Rattle.buffer_windows.proofs.Held.{held_fits}
 use Rattle.buffer_windows.proofs.Parts.{all_sent}

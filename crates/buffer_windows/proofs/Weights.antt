@@ -1,59 +1,20 @@
 -- What a window charges for a unit, packet by packet, and what it counts of an audio stream.
-use Rattle.std.proofs.Common.{
-  ◌≡◌,
-  ℕ,
-  zero,
-  suc,
-  ◌+◌,
-  ◌-◌,
-  ◌*◌,
-  ◌/◌,
-  ◌<◌,
-  ◌≤◌,
-  Bool,
-  true,
-  false,
-  cond,
-  nat_le,
-  nat_lt,
-  ◌==◌,
-  ◌&&◌,
-  ◌||◌,
-  List,
-  [],
-  ◌∷◌,
-  ◌++◌,
-  length,
-  map,
-  take,
-  drop,
-  replicate,
-  sum,
-  sum_by,
-  count_by,
-  refl,
-  ap,
-  ◌∙◌,
-  arith,
-}
+use Rattle.std.proofs.Common.{◌≡◌, ℕ, zero, suc, ◌+◌, ◌-◌, ◌*◌, ◌/◌, ◌≤◌, Bool, true, false, cond, nat_le, nat_lt, ◌==◌, ◌&&◌, ◌||◌, List, [], ◌∷◌, ◌++◌, length, map, take, drop, replicate, sum, sum_by, count_by, refl, ap, ◌∙◌, arith}
 use Rattle.std.specs.List.{enumerate_from, zip}
 use Rattle.std.specs.Int.{div_ceil}
-use Rattle.std.proofs.lemmas.List.{length-replicate}
 use Rattle.std.proofs.lemmas.List.Folds.{sum_by-replicate}
 use Rattle.std.proofs.lemmas.List.Sums.{sum_by-cons, sum_by-append, sum_by_push}
 use Rattle.stream_constants.specs.declared.packets.TheConstants.{PAYLOAD_BYTES}
 use Rattle.version_table.specs.declared.table.AudioPacket.{AudioPacket}
 use Rattle.version_table.specs.declared.table.Unit.{Unit as CodedUnit}
 use Rattle.version_table.specs.Choice.{version_at}
-use Rattle.slot_rule.specs.declared.queue_kind.QueueKind.{QueueKind}
-use Rattle.slot_rule.specs.declared.queue_kind.QueueKind.TheVariants.{Video, Audio}
 use Rattle.slot_rule.specs.declared.queued_packet.QueuedPacket.{QueuedPacket}
-use Rattle.slot_rule.specs.Queues.{audio_of, payloads, unit_packets}
+use Rattle.slot_rule.specs.Queues.{payloads, unit_packets}
 use Rattle.slot_rule.proofs.RuleQueues.{audio_packet}
 use Rattle.slot_rule.proofs.RuleUnits.{length-payloads, piece_of}
 use Rattle.slot_rule.proofs.RuleVideo.{packets_from}
 use Rattle.buffer_windows.specs.declared.windows.BufferWindow.{BufferWindow}
-use Rattle.buffer_windows.specs.Charges.{OwnedUnit, charge}
+use Rattle.buffer_windows.specs.Charges.{OwnedUnit, charged_bytes as charge}
 use Rattle.buffer_windows.specs.Room.{is_counted}
 use Rattle.buffer_windows.specs.Windows.{is_fresh, is_held, stop}
 use Rattle.buffer_windows.proofs.Rows.{IsWithinSlot}

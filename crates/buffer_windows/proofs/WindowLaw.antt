@@ -1,43 +1,8 @@
 -- The law: what a scheduled choice is charged by a window is no more than the window's room.
-use Rattle.std.proofs.Common.{
-  ◌≡◌,
-  ℕ,
-  zero,
-  suc,
-  ◌+◌,
-  ◌-◌,
-  ◌*◌,
-  ◌<◌,
-  ◌≤◌,
-  All,
-  List,
-  [],
-  ◌∷◌,
-  ◌++◌,
-  length,
-  map,
-  take,
-  drop,
-  count_by,
-  sum_by,
-  slice_get,
-  Some,
-  refl,
-  sym,
-  ap,
-  subst,
-  ◌∙◌,
-  add-zero,
-  length-take,
-  arith,
-  ℤ,
-  pos,
-  ◌-ℤ◌,
-  ◌≤ℤ◌,
-}
+use Rattle.std.proofs.Common.{◌≡◌, ℕ, zero, suc, ◌+◌, ◌-◌, ◌*◌, ◌<◌, ◌≤◌, All, List, [], ◌∷◌, ◌++◌, length, map, drop, count_by, sum_by, slice_get, Some, refl, sym, ap, ◌∙◌, add-zero, length-take, arith, pos, ◌≤ℤ◌}
 use Rattle.std.specs.List.{AllZip, enumerate_from, flat_map, range_with_len, zip}
 use Rattle.std.proofs.lemmas.Int.{ints}
-use Rattle.std.proofs.lemmas.List.{length-append, length-map}
+use Rattle.std.proofs.lemmas.List.{length-map}
 use Rattle.std.proofs.lemmas.List.Elements.{All-head, All-tail}
 use Rattle.std.proofs.lemmas.List.Sums.{sum_by-cons, sum_by-append}
 use Rattle.stream_constants.specs.declared.packets.TheConstants.{PAYLOAD_BYTES}
@@ -50,11 +15,10 @@ use Rattle.slot_rule.specs.declared.row.Row.{Row}
 use Rattle.slot_rule.specs.Queues.{Queue, audio_of, queues_from, queues_of, video_queue}
 use Rattle.slot_rule.specs.Schedule.{IsSchedule, IsScheduled}
 use Rattle.slot_rule.proofs.RuleQueues.{HasSizes-from_fits, fits_rest, units_in}
-use Rattle.slot_rule.proofs.RuleSent.{packets_sent}
-use Rattle.slot_rule.proofs.RuleVideo.{HasSizes, packets_from}
+use Rattle.slot_rule.proofs.RuleVideo.{HasSizes}
 use Rattle.buffer_windows.specs.declared.windows.BufferWindow.{BufferWindow}
-use Rattle.buffer_windows.specs.Charges.{OwnedUnit, charges, owned_from}
-use Rattle.buffer_windows.specs.Room.{audio_slots, buffer_bytes, eb_bytes, free_slots, mb_bytes, room, slots_taken}
+use Rattle.buffer_windows.specs.Charges.{charges, owned_from}
+use Rattle.buffer_windows.specs.Room.{audio_slots, buffer_bytes, counted_eb_bytes as eb_bytes, free_window_slots as free_slots, mb_bytes, buffer_room as room, slots_taken}
 use Rattle.buffer_windows.proofs.Parts.{audio_parts, rows_inside, video_parts}
 use Rattle.buffer_windows.proofs.Rows.{
   EachFrom,

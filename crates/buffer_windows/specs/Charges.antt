@@ -13,8 +13,8 @@ use Rattle.buffer_windows.specs.Windows.{is_fresh, is_held, stop}
 
 -- what a version of so many bytes of a unit of the program is charged: whole packets where the unit's slots lie in the window,
 -- else, where its slots are behind the tail or its bytes may be held before the first slot, its bytes
-abbrev pub charge : (slot : ℕ) → BufferWindow → (program due bytes : ℕ) → ℕ
-charge slot window program due bytes =
+abbrev pub charged_bytes : (slot : ℕ) → BufferWindow → (program due bytes : ℕ) → ℕ
+charged_bytes slot window program due bytes =
     if nat_le due window.due then
     if is_fresh slot window due then
     if nat_le (stop slot due) window.tail then PAYLOAD_BYTES * div_ceil bytes PAYLOAD_BYTES else bytes
@@ -39,7 +39,7 @@ owned_units table = owned_from 0 table.programs
 -- what the units of a choice are charged together
 abbrev pub charges : Table → (choice : List ℕ) → BufferWindow → ℕ
 charges table choice window =
-    sum_by (λ (owned, k). charge table.slot window owned.program owned.unit.due (version_at owned.unit k).bytes) (zip (owned_units table) choice)
+    sum_by (λ (owned, k). charged_bytes table.slot window owned.program owned.unit.due (version_at owned.unit k).bytes) (zip (owned_units table) choice)
 
 -- version k of the unit has no more bytes than its program's elementary buffer
 abbrev pub FitsBuffer : OwnedUnit → ℕ → Type 0

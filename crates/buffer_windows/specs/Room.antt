@@ -41,8 +41,8 @@ use Rattle.buffer_windows.specs.Windows.{counts_buffer, latest, stop}
 
 -- ---- slots
 -- the free slots from the window's first slot up to its tail
-unfoldable pub free_slots : Table → BufferWindow → ℕ
-free_slots table window =
+unfoldable pub free_window_slots : Table → BufferWindow → ℕ
+free_window_slots table window =
     count_by (λ n. is_none (reserved table.slot (length table.programs) n)) (range_with_len window.first (window.tail - window.first))
 
 -- ---- audio
@@ -71,8 +71,8 @@ audio_slots table window = sum_by (slots_taken table.slot window) (flat_map (λ 
 
 -- ---- buffers
 -- the bytes of the program's elementary buffer, where the window counts it
-abbrev pub eb_bytes : BufferWindow → (program : ℕ) → ProgramRow → ℕ
-eb_bytes window program row = if nat_lt 0 window.first && counts_buffer window program then EB_UNIT_BYTES * row.vbv else 0
+abbrev pub counted_eb_bytes : BufferWindow → (program : ℕ) → ProgramRow → ℕ
+counted_eb_bytes window program row = if nat_lt 0 window.first && counts_buffer window program then EB_UNIT_BYTES * row.vbv else 0
 
 -- the last due time of the program's units in the window; 0 where none is
 abbrev pub last_due : BufferWindow → ProgramRow → ℕ
@@ -87,9 +87,9 @@ mb_bytes slot window row =
 -- what the buffers of all programs give
 unfoldable pub buffer_bytes : Table → BufferWindow → ℕ
 buffer_bytes table window =
-    sum_by (λ (program, row). eb_bytes window program row + mb_bytes table.slot window row) (enumerate_from 0 table.programs)
+    sum_by (λ (program, row). counted_eb_bytes window program row + mb_bytes table.slot window row) (enumerate_from 0 table.programs)
 
 -- ---- the room
 -- the window's free slots and what the buffers give, less the slots of audio
-unfoldable pub room : Table → BufferWindow → ℤ
-room table window = pos (PAYLOAD_BYTES * free_slots table window + buffer_bytes table window) -ℤ pos (PAYLOAD_BYTES * audio_slots table window)
+unfoldable pub buffer_room : Table → BufferWindow → ℤ
+buffer_room table window = pos (PAYLOAD_BYTES * free_window_slots table window + buffer_bytes table window) -ℤ pos (PAYLOAD_BYTES * audio_slots table window)

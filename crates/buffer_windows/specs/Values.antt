@@ -9,8 +9,8 @@ use Rattle.version_table.specs.declared.table.Table.{Table}
 use Rattle.version_table.specs.Choice.{least, version_at}
 use Rattle.dual_bounds.specs.declared.constants.TheConstants.{DISTORTION_PARTS}
 use Rattle.buffer_windows.specs.declared.windows.BufferWindow.{BufferWindow}
-use Rattle.buffer_windows.specs.Charges.{OwnedUnit, charge, owned_units}
-use Rattle.buffer_windows.specs.Room.{room}
+use Rattle.buffer_windows.specs.Charges.{OwnedUnit, charged_bytes, owned_units}
+use Rattle.buffer_windows.specs.Room.{buffer_room}
 
 -- the parts of a distortion
 abbrev pub byte_parts : ℕ
@@ -22,25 +22,25 @@ versions_left owned None = filter (λ version. nat_le version.bytes (EB_UNIT_BYT
 versions_left owned (Some k) = version_at owned.unit k ∷ []
 
 -- what a version of a unit is charged by all windows: the sum of each lambda times the bytes that the window charges
-unfoldable pub price : (slot : ℕ) → List BufferWindow → OwnedUnit → Version → ℕ
-price slot windows owned version = sum_by (λ window. window.lambda * charge slot window owned.program owned.unit.due version.bytes) windows
+unfoldable pub version_price : (slot : ℕ) → List BufferWindow → OwnedUnit → Version → ℕ
+version_price slot windows owned version = sum_by (λ window. window.lambda * charged_bytes slot window owned.program owned.unit.due version.bytes) windows
 
 -- what a version of a unit costs
-abbrev pub cost : (slot : ℕ) → List BufferWindow → OwnedUnit → Version → ℕ
-cost slot windows owned version = byte_parts * version.distortion + price slot windows owned version
+abbrev pub version_cost : (slot : ℕ) → List BufferWindow → OwnedUnit → Version → ℕ
+version_cost slot windows owned version = byte_parts * version.distortion + version_price slot windows owned version
 
 -- what a unit costs at least, over its versions that may be chosen
-unfoldable pub least_cost : (slot : ℕ) → List BufferWindow → OwnedUnit → Option ℕ → ℕ
-least_cost slot windows owned fixed = least (map (cost slot windows owned) (versions_left owned fixed))
+unfoldable pub least_owned_cost : (slot : ℕ) → List BufferWindow → OwnedUnit → Option ℕ → ℕ
+least_owned_cost slot windows owned fixed = least (map (version_cost slot windows owned) (versions_left owned fixed))
 
 -- what these units cost at least together
-unfoldable pub least_costs : (slot : ℕ) → List BufferWindow → List OwnedUnit → List (Option ℕ) → ℕ
-least_costs slot windows units fixed = sum_by (λ (owned, entry). least_cost slot windows owned entry) (zip units fixed)
+unfoldable pub least_owned_costs : (slot : ℕ) → List BufferWindow → List OwnedUnit → List (Option ℕ) → ℕ
+least_owned_costs slot windows units fixed = sum_by (λ (owned, entry). least_owned_cost slot windows owned entry) (zip units fixed)
 
 -- what the room of the windows is worth: the sum of each lambda times the window's room
-unfoldable pub worth : Table → List BufferWindow → ℤ
-worth table windows = fold ◌+ℤ◌ (pos 0) (map (λ window. pos window.lambda *ℤ room table window) windows)
+unfoldable pub buffer_worth : Table → List BufferWindow → ℤ
+buffer_worth table windows = fold ◌+ℤ◌ (pos 0) (map (λ window. pos window.lambda *ℤ buffer_room table window) windows)
 
 -- the value of some windows where these versions are fixed
-unfoldable pub value_of_windows : Table → List (Option ℕ) → List BufferWindow → ℤ
-value_of_windows table fixed windows = pos (least_costs table.slot windows (owned_units table) fixed) -ℤ worth table windows
+unfoldable pub value_of_buffer_windows : Table → List (Option ℕ) → List BufferWindow → ℤ
+value_of_buffer_windows table fixed windows = pos (least_owned_costs table.slot windows (owned_units table) fixed) -ℤ buffer_worth table windows

@@ -1,10 +1,11 @@
 -- Windows that see the buffers: which packets can go before a window's first slot, and which windows are allowed.
 -- Times are ticks of 1/27,000,000 s.
-use Rattle.std.specs.Prelude.{ℕ, ◌-◌, ◌+◌, ◌*◌, ◌/◌, ◌%◌, ◌^◌, ◌<◌, ◌≤◌, ◌==◌, max, Bool, ◌&&◌, ◌||◌, nat_le, nat_lt}
+use Rattle.std.specs.Prelude.{ℕ, ◌-◌, ◌+◌, ◌*◌, ◌/◌, ◌%◌, ◌^◌, ◌<◌, ◌≤◌, ◌==◌, max, List, length, All, Bool, ◌&&◌, ◌||◌, nat_le, nat_lt}
 use Rattle.std.specs.Int.{div_ceil}
 use Rattle.stream_constants.specs.declared.decoder.TheConstants.{HOLD_TICKS}
-use Rattle.dual_bounds.specs.declared.constants.TheConstants.{MARGIN_TICKS}
+use Rattle.dual_bounds.specs.declared.constants.TheConstants.{LAMBDA_MOST, MARGIN_TICKS}
 use Rattle.dual_bounds.specs.declared.windows.Window.{Window}
+use Rattle.buffer_windows.specs.declared.constants.TheConstants.{BUFFER_WINDOWS_MOST}
 use Rattle.buffer_windows.specs.declared.windows.BufferWindow.{BufferWindow}
 
 -- how many slots end in time for what is due then: a margin before it, or earlier
@@ -35,6 +36,11 @@ pub record IsBufferWindow (slot : ℕ) (window : BufferWindow) : Type 0 where
   pub from : window.first ≤ window.tail
   pub upto : window.tail ≤ max window.first (stop slot window.due)
   pub begins : 0 < window.first → window.first * slot < window.due
+
+-- windows that a value may be asked for: few enough, with lambdas within their limit
+pub record ArePriced (windows : List BufferWindow) : Type 0 where
+  pub few : length windows ≤ BUFFER_WINDOWS_MOST
+  pub lambdas : All (λ window. window.lambda ≤ LAMBDA_MOST) windows
 
 -- a window of time as one that counts no buffer: from the first slot that begins no earlier than a second before it up to the last that
 -- ends in time for its last due time

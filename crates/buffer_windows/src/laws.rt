@@ -11,10 +11,10 @@ ghost use Rattle.dual_bounds.specs.declared.windows.Window.{Window};
 ghost use Rattle.dual_bounds.specs.Room.{room as room_of_time};
 ghost use Rattle.dual_bounds.specs.Values.{value_of_windows as value_of_time};
 ghost use Rattle.buffer_windows.specs.declared.windows.BufferWindow.{BufferWindow};
-ghost use Rattle.buffer_windows.specs.Bounds.{IsBoundOrNone, bound_of_windows, each_has_left};
+ghost use Rattle.buffer_windows.specs.Bounds.{IsBoundOrNone, bound_of_buffer_windows as bound_of_windows, each_has_left};
 ghost use Rattle.buffer_windows.specs.Charges.{charges, FitsBuffer, owned_units};
-ghost use Rattle.buffer_windows.specs.Room.{room};
-ghost use Rattle.buffer_windows.specs.Values.{value_of_windows};
+ghost use Rattle.buffer_windows.specs.Room.{buffer_room as room};
+ghost use Rattle.buffer_windows.specs.Values.{value_of_buffer_windows as value_of_windows};
 ghost use Rattle.buffer_windows.specs.Windows.{without_buffers};
 
 /// A scheduled choice is charged no more than the window's room, whatever slots, due time and programs the window has.

@@ -5,7 +5,16 @@
 //! slot a program's packets are no more than its multiplexing buffer can still give. Stands on `slot_rule`, `dual_bounds` and `version_table`.
 #![tactic(auto)]
 
+mod audio;
+mod buffers;
+pub mod constants;
 pub mod laws;
+mod prices;
+mod rooms;
+mod values;
 mod windows;
 
-pub use windows::BufferWindow;
+pub use prices::{Charged, Prices, charge_of};
+pub use rooms::{room, stop};
+pub use values::{bound_of_value, bound_of_windows, each_has_left, value_of_windows};
+pub use windows::{BufferWindow, BufferWindows};

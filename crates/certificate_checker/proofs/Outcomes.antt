@@ -7,14 +7,21 @@ use Rattle.version_table.specs.Choice.{Fits, HasVersion, distortion_of_choice}
 use Rattle.version_table.specs.Table.{units_of}
 use Rattle.slot_rule.specs.Schedule.{IsScheduled}
 use Rattle.dual_bounds.specs.declared.windows.Window.{Window as PricedWindow}
+use Rattle.buffer_windows.specs.declared.windows.BufferWindow.{BufferWindow as SeeingWindow}
 use Rattle.bound_certificate.specs.declared.cert.Cert.{Cert}
 use Rattle.bound_certificate.specs.declared.cert.Node.{Node}
-use Rattle.bound_certificate.specs.declared.cert.Node.TheVariants.{Branch, Dual, Run, Open, Window}
+use Rattle.bound_certificate.specs.declared.cert.Node.TheVariants.{Branch, Dual, Run, Open, Window, BufferWindow}
 use Rattle.certificate_checker.specs.declared.why.Why.{Why}
 use Rattle.certificate_checker.specs.declared.why.Why.TheVariants as whys
 use Rattle.certificate_checker.specs.declared.why.CertFault.{CertFault}
 use Rattle.certificate_checker.specs.Shown.{bound_of_leaf, choice_left, fix, unfixed, versions_of, windows_in}
 use Rattle.certificate_checker.specs.Faults.{
+  AreBufferWindows,
+  AreRightBufferWindows,
+  BufferWindowsRise,
+  CountPrograms,
+  IsFirstOfBufferWindows,
+  KeepBufferLimit,
   IsFirstOfBranch,
   IsFirstOfHead,
   IsFirstOfNode,
@@ -65,6 +72,35 @@ none_of_three first second third a b c why (inl x) is_a is_b is_c = x.1 is_a
 none_of_three first second third a b c why (inr (inl x)) is_a is_b is_c = x.2 is_b
 none_of_three first second third a b c why (inr (inr x)) is_a is_b is_c = x.3 is_c
 
+abbrev OneOfFour : (first second third fourth : Why) → (a b c d : Type 0) → Why → Type 0
+OneOfFour first second third fourth a b c d why =
+    ((why ≡ first) × (a → ⊥)) ⊎ (((why ≡ second) × a × (b → ⊥)) ⊎ (((why ≡ third) × a × b × (c → ⊥)) ⊎ ((why ≡ fourth) × a × b × c × (d → ⊥))))
+
+one_of_four : (first second third fourth : Why) (a b c d : Type 0) (why other : Why) → OneOfFour first second third fourth a b c d why
+    → OneOfFour first second third fourth a b c d other → why ≡ other
+one_of_four first second third fourth a b c d why other (inl x) (inl y) = x.0 ∙ sym y.0
+one_of_four first second third fourth a b c d why other (inl x) (inr (inl y)) = absurd (x.1 y.1)
+one_of_four first second third fourth a b c d why other (inl x) (inr (inr (inl y))) = absurd (x.1 y.1)
+one_of_four first second third fourth a b c d why other (inl x) (inr (inr (inr y))) = absurd (x.1 y.1)
+one_of_four first second third fourth a b c d why other (inr (inl x)) (inl y) = absurd (y.1 x.1)
+one_of_four first second third fourth a b c d why other (inr (inl x)) (inr (inl y)) = x.0 ∙ sym y.0
+one_of_four first second third fourth a b c d why other (inr (inl x)) (inr (inr (inl y))) = absurd (x.2 y.2)
+one_of_four first second third fourth a b c d why other (inr (inl x)) (inr (inr (inr y))) = absurd (x.2 y.2)
+one_of_four first second third fourth a b c d why other (inr (inr (inl x))) (inl y) = absurd (y.1 x.1)
+one_of_four first second third fourth a b c d why other (inr (inr (inl x))) (inr (inl y)) = absurd (y.2 x.2)
+one_of_four first second third fourth a b c d why other (inr (inr (inl x))) (inr (inr (inl y))) = x.0 ∙ sym y.0
+one_of_four first second third fourth a b c d why other (inr (inr (inl x))) (inr (inr (inr y))) = absurd (x.3 y.3)
+one_of_four first second third fourth a b c d why other (inr (inr (inr x))) (inl y) = absurd (y.1 x.1)
+one_of_four first second third fourth a b c d why other (inr (inr (inr x))) (inr (inl y)) = absurd (y.2 x.2)
+one_of_four first second third fourth a b c d why other (inr (inr (inr x))) (inr (inr (inl y))) = absurd (y.3 x.3)
+one_of_four first second third fourth a b c d why other (inr (inr (inr x))) (inr (inr (inr y))) = x.0 ∙ sym y.0
+
+none_of_four : (first second third fourth : Why) (a b c d : Type 0) (why : Why) → OneOfFour first second third fourth a b c d why → a → b → c → d → ⊥
+none_of_four first second third fourth a b c d why (inl x) is_a is_b is_c is_d = x.1 is_a
+none_of_four first second third fourth a b c d why (inr (inl x)) is_a is_b is_c is_d = x.2 is_b
+none_of_four first second third fourth a b c d why (inr (inr (inl x))) is_a is_b is_c is_d = x.3 is_c
+none_of_four first second third fourth a b c d why (inr (inr (inr x))) is_a is_b is_c is_d = x.4 is_d
+
 -- ---- a node's first fault is one, and a right node has none
 branch_cases : (table : Table) (fixed : List (Option ℕ)) (unit : ℕ) (why : Why) → IsFirstOfBranch table fixed unit why
     → OneOfTwo whys.UnitRange whys.UnitFixed (unit < length (units_of table)) (IsFree fixed unit) why
@@ -93,6 +129,25 @@ none_of_windows : (windows : List PricedWindow) (why : Why) → IsFirstOfWindows
 none_of_windows windows why first =
     none_of_three whys.DueOrder whys.WindowEmpty whys.LambdaLimit (Rise windows) (NoneEmpty windows) (KeepLimit windows) why (windows_cases windows why first)
 
+buffers_cases : (table : Table) (windows : List SeeingWindow) (why : Why) → IsFirstOfBufferWindows table windows why
+    → OneOfFour whys.DueOrder whys.WindowEmpty whys.ProgramRange whys.LambdaLimit (BufferWindowsRise windows) (AreBufferWindows table.slot windows)
+    (CountPrograms (length table.programs) windows) (KeepBufferLimit windows) why
+buffers_cases table windows whys.DueOrder is = inl (refl, is)
+buffers_cases table windows whys.WindowEmpty is = inr (inl (refl, is.0, is.1))
+buffers_cases table windows whys.ProgramRange is = inr (inr (inl (refl, is.0, is.1, is.2)))
+buffers_cases table windows whys.LambdaLimit is = inr (inr (inr (refl, is.0, is.1, is.2, is.3)))
+buffers_cases table windows why is = absurd is
+
+one_of_buffers : (table : Table) (windows : List SeeingWindow) (a b : Why) → IsFirstOfBufferWindows table windows a → IsFirstOfBufferWindows table windows b → a ≡ b
+one_of_buffers table windows a b first second =
+    one_of_four whys.DueOrder whys.WindowEmpty whys.ProgramRange whys.LambdaLimit (BufferWindowsRise windows) (AreBufferWindows table.slot windows)
+    (CountPrograms (length table.programs) windows) (KeepBufferLimit windows) a b (buffers_cases table windows a first) (buffers_cases table windows b second)
+
+none_of_buffers : (table : Table) (windows : List SeeingWindow) (why : Why) → IsFirstOfBufferWindows table windows why → AreRightBufferWindows table windows → ⊥
+none_of_buffers table windows why first right =
+    none_of_four whys.DueOrder whys.WindowEmpty whys.ProgramRange whys.LambdaLimit (BufferWindowsRise windows) (AreBufferWindows table.slot windows)
+    (CountPrograms (length table.programs) windows) (KeepBufferLimit windows) why (buffers_cases table windows why first) right.rise right.some right.programs right.limit
+
 one_of_node : (table : Table) (fixed : List (Option ℕ)) (node : Node) (a b : Why) → IsFirstOfNode table fixed node a → IsFirstOfNode table fixed node b → a ≡ b
 one_of_node table fixed (Branch unit) a b first second =
     one_of_two whys.UnitRange whys.UnitFixed (unit < length (units_of table)) (IsFree fixed unit) a b (branch_cases table fixed unit a first) (branch_cases table fixed unit b second)
@@ -102,6 +157,7 @@ one_of_node table fixed (Run scheduled) a b first second =
     (run_cases table fixed scheduled a first) (run_cases table fixed scheduled b second)
 one_of_node table fixed Open a b first second = one_of_windows [] a b first second
 one_of_node table fixed (Window priced) a b first second = one_of_windows priced.items a b first second
+one_of_node table fixed (BufferWindow priced) a b first second = one_of_buffers table priced a b first second
 
 none_of_right : (table : Table) (fixed : List (Option ℕ)) (node : Node) (why : Why) → IsFirstOfNode table fixed node why → IsRight table fixed node → ⊥
 none_of_right table fixed (Branch unit) why first right =
@@ -111,6 +167,7 @@ none_of_right table fixed (Run scheduled) why first right =
     none_of_two whys.RunOpen whys.RunWrong (LeavesOne table fixed) (IsFlagOf table (choice_left fixed) scheduled) why (run_cases table fixed scheduled why first) right.0 right.1
 none_of_right table fixed Open why first right = none_of_windows [] why first right.0 right.1 right.2
 none_of_right table fixed (Window priced) why first right = none_of_windows priced.items why first right.0 right.1 right.2
+none_of_right table fixed (BufferWindow priced) why first right = none_of_buffers table priced why first right
 
 -- ---- the head
 abbrev OneOfHead : Table → Cert → Why → Type 0
@@ -210,6 +267,7 @@ branch_unit (Dual priced) = 0
 branch_unit (Run scheduled) = 0
 branch_unit Open = 0
 branch_unit (Window priced) = 0
+branch_unit (BufferWindow priced) = 0
 
 one_wrong : (table : Table) (fixed : List (Option ℕ)) (node : Node) (behind : List Node) (why : Why) (b : Walked) → IsFirstOfNode table fixed node why → InTree table fixed (node ∷ behind) b
     → Stops why (suc (length behind)) ≡ b

@@ -46,9 +46,11 @@ use Rattle.dual_bounds.specs.Fixed.{TakesFixed}
 use Rattle.dual_bounds.specs.Values.{value_of_windows}
 use Rattle.dual_bounds.proofs.Duality.{windows_bound}
 use Rattle.dual_bounds.proofs.ValueLaws.{branch_bounds}
+use Rattle.buffer_windows.specs.Bounds.{IsBoundOrNone, bound_of_buffer_windows}
+use Rattle.buffer_windows.proofs.Duality.{windows_bound as buffers_bound}
 use Rattle.bound_certificate.specs.declared.cert.Cert.{Cert}
 use Rattle.bound_certificate.specs.declared.cert.Node.{Node}
-use Rattle.bound_certificate.specs.declared.cert.Node.TheVariants.{Branch, Dual, Run, Open, Window}
+use Rattle.bound_certificate.specs.declared.cert.Node.TheVariants.{Branch, Dual, Run, Open, Window, BufferWindow}
 use Rattle.certificate_checker.specs.declared.why.CertFault.{CertFault}
 use Rattle.certificate_checker.specs.Shown.{bound_of_leaf, bound_of_run, choice_left, fix, lesser, unfixed, versions_of, windows_in}
 use Rattle.certificate_checker.specs.Faults.{IsRight, IsSettled}
@@ -94,6 +96,11 @@ run_bounds table n fixed false right most choice fits takes scheduled =
     let left : choice ≡ choice_left fixed = one_left (units_of table) fixed choice right.0 fits takes in
     absurd (right.1 (subst (λ (c : List ℕ). IsScheduled table c) left scheduled))
 
+-- what is at most a bound is one, and where there is none no choice is scheduled
+bound_or_none : (table : Table) (n : ℕ) (fixed : List (Option ℕ)) (bound : Option ℕ) → IsBoundOrNone table fixed bound → IsAtMost n bound → IsBound table fixed n
+bound_or_none table n fixed (Some bound) is most choice fits takes scheduled = omega (arith, most, is choice fits takes scheduled)
+bound_or_none table n fixed None is most choice fits takes scheduled = absurd (is choice fits takes scheduled)
+
 leaf_bounds : (table : Table) (n : ℕ) (fixed : List (Option ℕ)) (node : Node) → IsValidTable table → IsLeaf node → IsRight table fixed node → IsAtMost n (bound_of_leaf table fixed node)
     → IsBound table fixed n
 leaf_bounds table n fixed (Branch unit) valid is right most = absurd is
@@ -101,6 +108,8 @@ leaf_bounds table n fixed (Dual priced) valid is right most = windows_bound_leas
 leaf_bounds table n fixed (Run scheduled) valid is right most = run_bounds table n fixed scheduled right most
 leaf_bounds table n fixed Open valid is right most = windows_bound_least table n fixed Open valid most
 leaf_bounds table n fixed (Window priced) valid is right most = windows_bound_least table n fixed (Window priced) valid most
+leaf_bounds table n fixed (BufferWindow priced) valid is right most =
+    bound_or_none table n fixed (bound_of_buffer_windows table fixed priced) (buffers_bound table fixed priced valid) most
 
 -- ---- trees
 -- what is at most the bound shown is a bound

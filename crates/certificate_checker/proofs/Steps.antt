@@ -7,8 +7,10 @@ use Rattle.dual_bounds.specs.Fixed.{FixesVersions, NamesVersion}
 use Rattle.arrayvec.specs.ArrayVec.{ArrayVec}
 use Rattle.dual_bounds.specs.declared.windows.Multiplier.{Multiplier}
 use Rattle.dual_bounds.specs.declared.windows.Window.{Window as PricedWindow}
+use Rattle.buffer_windows.specs.declared.windows.BufferWindow.{BufferWindow as SeeingWindow}
+use Rattle.buffer_windows.specs.Bounds.{bound_of_buffer_windows}
 use Rattle.bound_certificate.specs.declared.cert.Node.{Node}
-use Rattle.bound_certificate.specs.declared.cert.Node.TheVariants.{Branch, Dual, Open, Window}
+use Rattle.bound_certificate.specs.declared.cert.Node.TheVariants.{Branch, Dual, Open, Window, BufferWindow}
 use Rattle.certificate_checker.specs.declared.path.Next.{Next}
 use Rattle.certificate_checker.specs.declared.path.Next.TheVariants.{Needed, Whole}
 use Rattle.certificate_checker.specs.declared.path.OpenBranch.{OpenBranch}
@@ -16,7 +18,7 @@ use Rattle.certificate_checker.specs.declared.path.Path.{Path}
 use Rattle.certificate_checker.specs.declared.why.Why.{Why}
 use Rattle.certificate_checker.specs.declared.walk.Closing.TheVariants.{NextChild, Shown}
 use Rattle.certificate_checker.specs.Shown.{bound_of_leaf, bound_of_windows, choice_left, fix, lesser, versions_of, windows_in}
-use Rattle.certificate_checker.specs.Faults.{AreRight, IsRight}
+use Rattle.certificate_checker.specs.Faults.{AreRight, AreRightBufferWindows, IsRight}
 use Rattle.certificate_checker.specs.Walk.{IsLeaf, Shows, Walks, leaf}
 use Rattle.certificate_checker.specs.Private.Paths.{AreOpen, IsClosed, IsClosing, IsPath, IsTaken, KeepsRoom, Resumes, unfix, version_in}
 use Rattle.certificate_checker.proofs.Paths.{first_child, last_child, next_child, opened, reverse-push, room_for_one, unfix-fix, unfix-free}
@@ -157,6 +159,12 @@ window_by table fixed windows priced same =
 
 pub open_by : (table : Table) (fixed : List (Option ℕ)) → IsByWindows table fixed [] Open
 open_by table fixed = record { is_leaf = tt; right = λ are. are; bound = refl }
+
+-- what windows that see the buffers show their node shows
+pub buffer_windows_taken : (table : Table) (old new : Path) (windows : List SeeingWindow) (result : Result Next Why) → OnOk result (AreRightBufferWindows table windows)
+    → IfOk result (IsClosed table old new (bound_of_buffer_windows table old.fixed.items windows)) → IfOk result (IsTaken table old new (BufferWindow windows))
+buffer_windows_taken table old new windows (Ok next) are closed = leaf_taken table old new (BufferWindow windows) next tt are closed
+buffer_windows_taken table old new windows (Err why) are closed = tt
 
 -- what a node's windows show it shows
 pub windows_taken : (table : Table) (old new : Path) (node : Node) (windows : List PricedWindow) (result : Result Next Why) → IsByWindows table old.fixed.items windows node

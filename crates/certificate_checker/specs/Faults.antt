@@ -1,5 +1,5 @@
 -- What can be wrong with the head of a certificate and with a node by itself.
-use Rattle.std.specs.Prelude.{◌≡◌, ◌≢◌, ℕ, ◌+◌, ◌<◌, ◌≤◌, ◌⊎◌, Bool, true, false, List, length, All, slice_index_or, Option, Some, None}
+use Rattle.std.specs.Prelude.{◌≡◌, ◌≢◌, ℕ, ◌+◌, ◌^◌, ◌<◌, ◌≤◌, ◌⊎◌, Bool, true, false, List, length, All, slice_index_or, Option, Some, None}
 use Rattle.std.specs.List.{AllZip}
 use Rattle.version_table.specs.declared.table.Unit.{Unit as CodedUnit}
 use Rattle.version_table.specs.declared.table.Table.{Table}
@@ -8,9 +8,11 @@ use Rattle.version_table.specs.Table.{units_of}
 use Rattle.slot_rule.specs.Schedule.{IsScheduled}
 use Rattle.dual_bounds.specs.declared.constants.TheConstants.{LAMBDA_MOST}
 use Rattle.dual_bounds.specs.declared.windows.Window.{Window as PricedWindow}
+use Rattle.buffer_windows.specs.declared.windows.BufferWindow.{BufferWindow as SeeingWindow}
+use Rattle.buffer_windows.specs.Windows.{IsBufferWindow}
 use Rattle.bound_certificate.specs.declared.cert.Cert.{Cert}
 use Rattle.bound_certificate.specs.declared.cert.Node.{Node}
-use Rattle.bound_certificate.specs.declared.cert.Node.TheVariants.{Branch, Run}
+use Rattle.bound_certificate.specs.declared.cert.Node.TheVariants.{Branch, Run, BufferWindow}
 use Rattle.certificate_checker.specs.declared.why.Why.{Why}
 use Rattle.certificate_checker.specs.declared.why.Why.TheVariants as whys
 use Rattle.certificate_checker.specs.Shown.{choice_left, windows_in}
@@ -35,6 +37,48 @@ KeepLimit windows = All (λ window. window.lambda ≤ LAMBDA_MOST) windows
 abbrev pub AreRight : List PricedWindow → Type 0
 AreRight windows = Rise windows × NoneEmpty windows × KeepLimit windows
 
+-- ---- windows that see the buffers
+-- one goes before another: by its due time, then its first slot, then its tail, then its programs
+abbrev pub BufferWindowGoesBefore : SeeingWindow → SeeingWindow → Type 0
+BufferWindowGoesBefore a b =
+    (a.due < b.due)
+    ⊎ ((a.due ≡ b.due) × ((a.first < b.first) ⊎ ((a.first ≡ b.first) × ((a.tail < b.tail) ⊎ ((a.tail ≡ b.tail) × (a.programs < b.programs))))))
+
+-- each goes before the next
+abbrev pub BufferWindowsRise : List SeeingWindow → Type 0
+BufferWindowsRise windows =
+    (k : ℕ) (d : SeeingWindow) → k + 1 < length windows → BufferWindowGoesBefore (slice_index_or windows k d) (slice_index_or windows (k + 1) d)
+
+-- each has its tail between its first slot and the last that ends in time, and due times behind its beginning
+abbrev pub AreBufferWindows : (slot : ℕ) → List SeeingWindow → Type 0
+AreBufferWindows slot windows = All (IsBufferWindow slot) windows
+
+-- none counts the buffer of a program that there isn't: of so many programs
+abbrev pub CountPrograms : (programs : ℕ) → List SeeingWindow → Type 0
+CountPrograms programs windows = All (λ window. window.programs < 2 ^ programs) windows
+
+-- no lambda passes its limit
+abbrev pub KeepBufferLimit : List SeeingWindow → Type 0
+KeepBufferLimit windows = All (λ window. window.lambda ≤ LAMBDA_MOST) windows
+
+-- nothing is wrong with windows that see the buffers
+pub record AreRightBufferWindows (table : Table) (windows : List SeeingWindow) : Type 0 where
+  pub rise : BufferWindowsRise windows
+  pub some : AreBufferWindows table.slot windows
+  pub programs : CountPrograms (length table.programs) windows
+  pub limit : KeepBufferLimit windows
+
+-- what is wrong with them first, over all of them
+abbrev pub IsFirstOfBufferWindows : Table → List SeeingWindow → Why → Type 0
+IsFirstOfBufferWindows table windows whys.DueOrder = BufferWindowsRise windows → ⊥
+IsFirstOfBufferWindows table windows whys.WindowEmpty = BufferWindowsRise windows × (AreBufferWindows table.slot windows → ⊥)
+IsFirstOfBufferWindows table windows whys.ProgramRange =
+    BufferWindowsRise windows × AreBufferWindows table.slot windows × (CountPrograms (length table.programs) windows → ⊥)
+IsFirstOfBufferWindows table windows whys.LambdaLimit =
+    BufferWindowsRise windows × AreBufferWindows table.slot windows × CountPrograms (length table.programs) windows × (KeepBufferLimit windows → ⊥)
+IsFirstOfBufferWindows table windows why = ⊥
+
+-- ---- choices
 -- a unit is fixed or has one version
 abbrev pub IsSettled : CodedUnit → Option ℕ → Type 0
 IsSettled unit None = length unit.versions.items ≤ 1
@@ -57,6 +101,7 @@ IsFree fixed unit = slice_index_or fixed unit None ≡ None
 abbrev pub IsRight : Table → List (Option ℕ) → Node → Type 0
 IsRight table fixed (Branch unit) = (unit < length (units_of table)) × IsFree fixed unit
 IsRight table fixed (Run scheduled) = LeavesOne table fixed × IsFlagOf table (choice_left fixed) scheduled
+IsRight table fixed (BufferWindow priced) = AreRightBufferWindows table priced
 IsRight table fixed node = AreRight (windows_in node)
 
 -- what is wrong with a branch first
@@ -82,6 +127,7 @@ IsFirstOfWindows windows why = ⊥
 abbrev pub IsFirstOfNode : Table → List (Option ℕ) → Node → Why → Type 0
 IsFirstOfNode table fixed (Branch unit) why = IsFirstOfBranch table fixed unit why
 IsFirstOfNode table fixed (Run scheduled) why = IsFirstOfRun table fixed scheduled why
+IsFirstOfNode table fixed (BufferWindow priced) why = IsFirstOfBufferWindows table priced why
 IsFirstOfNode table fixed node why = IsFirstOfWindows (windows_in node) why
 
 -- nothing is wrong with the choice and its distortion

@@ -7,8 +7,9 @@ use Rattle.version_table.specs.Table.{units_of}
 use Rattle.dual_bounds.specs.declared.windows.Window.{Window as PricedWindow}
 use Rattle.dual_bounds.specs.Bounds.{bound_of_value}
 use Rattle.dual_bounds.specs.Values.{from_start, value_of_windows}
+use Rattle.buffer_windows.specs.Bounds.{bound_of_buffer_windows}
 use Rattle.bound_certificate.specs.declared.cert.Node.{Node}
-use Rattle.bound_certificate.specs.declared.cert.Node.TheVariants.{Branch, Dual, Run, Open, Window}
+use Rattle.bound_certificate.specs.declared.cert.Node.TheVariants.{Branch, Dual, Run, Open, Window, BufferWindow}
 
 -- no version is fixed of any unit
 abbrev pub unfixed : Table → List (Option ℕ)
@@ -30,13 +31,14 @@ version_left entry = unwrap_or entry 0
 abbrev pub choice_left : List (Option ℕ) → List ℕ
 choice_left fixed = map version_left fixed
 
--- the windows of a node: its own, those of its multipliers, which reach from time 0 on, or none
+-- the windows of time of a node: its own, those of its multipliers, which reach from time 0 on, or none
 abbrev pub windows_in : Node → List PricedWindow
 windows_in (Branch unit) = []
 windows_in (Dual priced) = map from_start priced.items
 windows_in (Run scheduled) = []
 windows_in Open = []
 windows_in (Window priced) = priced.items
+windows_in (BufferWindow priced) = []
 
 -- the bound of a choice that was tried: its distortion, or none where it isn't scheduled
 abbrev pub bound_of_run : Table → List ℕ → (scheduled : Bool) → Option ℕ
@@ -50,6 +52,7 @@ bound_of_windows table fixed windows = Some (bound_of_value (value_of_windows ta
 -- the bound of a node without children
 abbrev pub bound_of_leaf : Table → List (Option ℕ) → Node → Option ℕ
 bound_of_leaf table fixed (Run scheduled) = bound_of_run table (choice_left fixed) scheduled
+bound_of_leaf table fixed (BufferWindow priced) = bound_of_buffer_windows table fixed priced
 bound_of_leaf table fixed node = bound_of_windows table fixed (windows_in node)
 
 -- the lesser of two bounds, where there are two; none is left out

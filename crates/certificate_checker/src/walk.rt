@@ -1,18 +1,22 @@
 ghost use Rattle.std.specs.Prelude.{◌≡◌, ◌^◌, ◌<◌, ◌≤◌, [], length, drop, IfOk, IfErr, OnOk};
 ghost use Rattle.version_table.specs.Table.{IsValidTable};
+ghost use Rattle.buffer_windows.specs.declared.constants.TheConstants.{BUFFER_WINDOWS_MOST};
+ghost use Rattle.buffer_windows.specs.Bounds.{bound_of_buffer_windows};
 ghost use Rattle.bound_certificate.specs.declared.cert.Node.TheVariants as nodes;
-ghost use Rattle.certificate_checker.specs.Faults.{AreRight, IsFirstOfBranch, IsFirstOfNode, IsFirstOfRun, IsFirstOfWindows};
+ghost use Rattle.certificate_checker.specs.Faults.{AreRight, AreRightBufferWindows, IsFirstOfBranch, IsFirstOfBufferWindows, IsFirstOfNode, IsFirstOfRun, IsFirstOfWindows};
 ghost use Rattle.certificate_checker.specs.Shown.{bound_of_windows, lesser, unfixed};
 ghost use Rattle.certificate_checker.specs.Walk.{Shows, Walks};
 ghost use Rattle.certificate_checker.specs.Private.Paths.{IsClosed, IsClosing, IsFaultIn, IsPath, IsTaken, KeepsRoom};
 ghost use Rattle.certificate_checker.specs.Private.Tallies.{IsTold, KeepsTallyRoom};
 
+use crate::buffer_faults::fault_of_buffer_windows;
 use crate::costs::bound_of_windows;
 use crate::faults::{bound_of_run, fault_of_branch, fault_of_run, fault_of_windows};
 use crate::path::{Next, OpenBranch, Path, versions_of};
 use crate::tally::Tally;
 use crate::why::{CertFault, Why};
 use bound_certificate::Node;
+use buffer_windows::{BufferWindow, bound_of_windows as bound_of_buffer_windows};
 use dual_bounds::constants::WINDOWS_MOST;
 use dual_bounds::{Window, windows_of};
 use version_table::Table;
@@ -98,6 +102,7 @@ fn take_node(table: &Table, node: &Node, path: &mut Path, tally: &mut Tally) -> 
         Node::Run { scheduled } => take_run(table, *scheduled, path, tally),
         Node::Open => take_windows(table, &[], path, tally),
         Node::Window { with } => take_windows(table, with.as_slice(), path, tally),
+        Node::BufferWindow { with } => take_buffer_windows(table, with.as_slice(), path, tally),
     }
 }
 
@@ -147,6 +152,34 @@ fn take_windows(
         None => {
             let bound = bound_of_windows(table, tally, path.fixed.as_slice(), windows);
             Ok(close(table, Some(bound), path, tally))
+        }
+    }
+}
+
+/// Takes a node that these windows that see the buffers bound.
+fn take_buffer_windows(
+    table: &Table,
+    windows: &[BufferWindow],
+    path: &mut Path,
+    tally: &mut Tally,
+) -> Result<Next, Why>
+    requires valid { IsValidTable table.now }
+    requires path { IsPath table.now path.old }
+    requires tally { IsTold table.now path.old tally.old }
+    requires few { length windows.now ≤ BUFFER_WINDOWS_MOST }
+    ensures path { IsPath table.now path.new }
+    ensures room { KeepsRoom path.old path.new }
+    ensures tally { IsTold table.now path.new tally.new }
+    ensures tally_room { KeepsTallyRoom tally.old tally.new }
+    ensures right { OnOk result (AreRightBufferWindows table.now windows.now) }
+    ensures closed { IfOk result (IsClosed table.now path.old path.new (bound_of_buffer_windows table.now path.old.fixed.items windows.now)) }
+    ensures wrong { IfErr result (IsFirstOfBufferWindows table.now windows.now) }
+{
+    match fault_of_buffer_windows(table, windows) {
+        Some(why) => Err(why),
+        None => {
+            let bound = bound_of_buffer_windows(table, path.fixed.as_slice(), windows);
+            Ok(close(table, bound, path, tally))
         }
     }
 }

@@ -15,10 +15,13 @@ pub enum Why {
     UnitRange,
     /// A branch on a unit that is fixed on its path.
     UnitFixed,
-    /// Multipliers or windows don't rise by due time, and windows of one due time by where they begin.
+    /// Multipliers or windows don't rise by due time, and windows of one due time by where they begin, or by first slot, tail slot and
+    /// programs.
     DueOrder,
-    /// A window begins behind its due time.
+    /// A window begins behind its due time, or has its tail before its first slot or behind the last that ends in time.
     WindowEmpty,
+    /// A window counts the buffer of a program that there isn't.
+    ProgramRange,
     /// A lambda is greater than 2^40.
     LambdaLimit,
     /// A unit with two or more versions isn't fixed where one choice is to be tried.

@@ -139,6 +139,56 @@ fn a_window_bounds_by_the_room_from_where_it_begins(rt: HostRuntime) -> Result<(
     assert_answer(&rt, alloc, LATE, &empty, fault(0, Why::WindowEmpty))
 }
 
+/// Two units of a program whose buffer has 2,048 bytes: the first fills it, of the second 368 bytes have room in two slots.
+const FULL: &[u8] =
+    b"remux table 1\nslot 40000\nnodes 1\nevaluations 0\nprogram 1\nunit 1200000 2049:0 2048:2\nunit 1287200 369:0 368:5\n";
+
+/// Their versions 1, with one window that sees the buffer: slots 27 to 31, due by 1,287,200, and a lambda of five distortions a byte.
+const WITH_A_BUFFER_WINDOW: [u8; 59] = [
+    0x52, 0x4D, 0x58, 0x43, 3, 0, 0, 0, 0, 0, 0, 0, 7, 0, 0, 0, 0, 0, 0, 0, 7, 0, 0, 0, 2, 1, 1, 0,
+    0, 0, 1, 6, 0, 1, 0, 0, 0, 27, 0, 0, 0, 0, 0, 0x13, 0xA4, 0x20, 1, 0, 0, 0, 32, 0, 0, 0, 0, 0,
+    3, 0x98, 0,
+];
+
+/// Asserts how that certificate is answered with one byte changed.
+fn assert_buffers(
+    rt: &impl Abort,
+    alloc: Global,
+    place: usize,
+    byte: u8,
+    wanted: Result<u64, CertFault>,
+) -> Result<(), Fail> {
+    let mut bytes = WITH_A_BUFFER_WINDOW;
+    if place < bytes.len() {
+        bytes[place] = byte;
+    }
+    assert_answer(rt, alloc, FULL, &bytes, wanted)
+}
+
+#[test]
+fn a_window_that_sees_the_buffers_bounds_by_what_they_hold(rt: HostRuntime) -> Result<(), Fail> {
+    let alloc = rt.alloc();
+    assert_buffers(&rt, alloc, 58, 0, Ok(7))?;
+    assert_buffers(&rt, alloc, 12, 8, fault(0, Why::BoundHigh))?;
+    assert_buffers(&rt, alloc, 46, 0, fault(0, Why::BoundHigh))
+}
+
+#[test]
+fn its_faults_are_said_in_their_order(rt: HostRuntime) -> Result<(), Fail> {
+    let alloc = rt.alloc();
+    assert_buffers(&rt, alloc, 50, 33, fault(0, Why::WindowEmpty))?;
+    assert_buffers(&rt, alloc, 50, 26, fault(0, Why::WindowEmpty))?;
+    assert_buffers(&rt, alloc, 46, 2, fault(0, Why::ProgramRange))?;
+    assert_buffers(&rt, alloc, 52, 1, fault(0, Why::LambdaLimit))?;
+    let mut two = WITH_A_BUFFER_WINDOW;
+    two[50] = 33;
+    two[46] = 2;
+    assert_answer(&rt, alloc, FULL, &two, fault(0, Why::WindowEmpty))?;
+    two[50] = 32;
+    two[51] = 1;
+    assert_answer(&rt, alloc, FULL, &two, fault(0, Why::ProgramRange))
+}
+
 /// Two multipliers of one due time, the first of which has a weight of 2^40 and 1.
 const HEAVY_THEN_UNORDERED: [u8; 35] = [
     2, 0, 2, 0, 0, 0, 0, 0, 0, 0x6A, 0x40, 0, 0, 1, 0, 0, 0, 0, 1, 0, 0, 0, 0, 0, 0, 0x6A, 0x40, 0,

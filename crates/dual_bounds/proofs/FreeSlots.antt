@@ -52,8 +52,7 @@ use Rattle.slot_rule.specs.Timetable.{period, reserved, reserved_at}
 use Rattle.slot_rule.specs.declared.sent.Sent.{Sent}
 use Rattle.slot_rule.specs.declared.sent.Sent.TheVariants.{Pat, Pmt, Pcr}
 use Rattle.dual_bounds.specs.declared.constants.TheConstants.{MARGIN_TICKS}
-use Rattle.dual_bounds.specs.Private.Counts.{free_below}
-use Rattle.dual_bounds.specs.Room.{free_slots, serves}
+use Rattle.dual_bounds.specs.Room.{free_below, free_slots, serves}
 use Rattle.dual_bounds.proofs.Ranges.{count_below, count_below-more, count_below-rises}
 
 -- ---- a slot is free behind the reserved ones of its period

@@ -19,6 +19,10 @@ serves table from due n =
     && nat_le from (n * table.slot + HOLD_TICKS)
     && nat_le ((n + 1) * table.slot + MARGIN_TICKS) due
 
+-- how many slots below n are free
+unfoldable pub free_below : Table → (n : ℕ) → ℕ
+free_below table n = count_by (λ k. is_none (reserved table.slot (length table.programs) k)) (range_with_len 0 n)
+
 -- how many of the slots that end by the window's end serve it
 unfoldable pub free_slots : Table → (from due : ℕ) → ℕ
 free_slots table from due = count_by (serves table from due) (range_with_len 0 (due / table.slot))

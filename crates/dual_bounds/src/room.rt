@@ -1,8 +1,8 @@
 ghost use Rattle.std.specs.Prelude.{◌≡◌, ◌+◌, ◌<◌, ◌≤◌, ◌^◌, length, All};
 ghost use Rattle.std.specs.List.{flat_map};
 ghost use Rattle.version_table.specs.Table.{IsValidTable, IsValidAudio};
-ghost use Rattle.dual_bounds.specs.Private.Counts.{DuesStay, SplitsBefore, SplitsBy, audio_within, free_below};
-ghost use Rattle.dual_bounds.specs.Room.{audio_due, free_slots, room, slot_capacity};
+ghost use Rattle.dual_bounds.specs.Private.Counts.{DuesStay, SplitsBefore, SplitsBy, audio_within};
+ghost use Rattle.dual_bounds.specs.Room.{audio_due, free_below, free_slots, room, slot_capacity};
 
 use crate::constants::MARGIN_TICKS;
 use list_types::ListOf;
@@ -41,7 +41,7 @@ fn slots_free(table: &Table, from: u64, due: u64) -> u64
 }
 
 /// The free slots below slot `n`: in each period of the timetable those behind the reserved ones.
-fn slots_free_below(table: &Table, n: u64) -> u64
+pub fn slots_free_below(table: &Table, n: u64) -> u64
     requires { IsValidTable table.now }
     ensures value { result ≡ free_below table.now n }
     ensures few { result ≤ n }

@@ -5,5 +5,6 @@ pub mod BestAddition
 pub mod BestWindow
 pub mod Between
 pub mod FirstBest
+mod Ordered
 pub mod Rises
 pub mod Steps

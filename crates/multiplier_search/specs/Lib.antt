@@ -1,3 +1,4 @@
+pub mod Buffered
 pub mod Private
 pub mod Single
 pub mod Turns

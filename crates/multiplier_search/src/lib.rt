@@ -6,6 +6,7 @@
 mod additions;
 mod all_steps;
 mod at_due;
+mod buffered;
 mod changes;
 pub mod constants;
 mod lambda;
@@ -16,6 +17,7 @@ mod single;
 mod turns;
 mod window;
 
+pub use buffered::buffered_windows;
 pub use relaxed::{LinearRelaxation, SlackPlace, SlackTree, relaxation};
 pub use single::best_single;
 pub use turns::{improve, improve_windows};

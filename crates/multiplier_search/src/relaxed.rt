@@ -4,9 +4,9 @@ ghost use Rattle.dual_bounds.specs.Fixed.{FixesVersions};
 ghost use Rattle.dual_bounds.specs.Values.{value_of_windows};
 ghost use Rattle.multiplier_search.specs.Windows.{AreSearched};
 
-mod greedy;
-mod hull;
-mod slack;
+pub(crate) mod greedy;
+pub(crate) mod hull;
+pub(crate) mod slack;
 mod slack_tree;
 
 use crate::changes::of_greater_value;

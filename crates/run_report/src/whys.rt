@@ -18,6 +18,7 @@ pub fn why_name(why: Why) -> &'static str
         Why::UnitFixed => "UnitFixed",
         Why::DueOrder => "DueOrder",
         Why::WindowEmpty => "WindowEmpty",
+        Why::ProgramRange => "ProgramRange",
         Why::LambdaLimit => "LambdaLimit",
         Why::RunOpen => "RunOpen",
         Why::RunWrong => "RunWrong",

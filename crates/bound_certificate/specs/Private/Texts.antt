@@ -1,11 +1,11 @@
 -- Texts in bytes, as sets of byte lists, and where bytes are refused as the beginning of such a text.
-use Rattle.std.specs.Prelude.{◌≡◌, ℕ, zero, suc, ◌+◌, ◌*◌, ◌^◌, ◌<◌, ◌≤◌, ◌==◌, if◌then◌else◌, List, [], ◌∷◌, ◌++◌, length, slice_index}
-use Rattle.std.specs.Int.{w32, from_be_bytes}
+use Rattle.std.specs.Prelude.{◌≡◌, ◌⊎◌, ℕ, zero, suc, ◌+◌, ◌*◌, ◌^◌, ◌<◌, ◌≤◌, ◌==◌, if◌then◌else◌, List, [], ◌∷◌, ◌++◌, length, slice_index}
+use Rattle.std.specs.Int.{w16, w32, from_be_bytes}
 use Rattle.bit_lists.specs.Fields.{AreBytes}
 use Rattle.bound_certificate.specs.declared.fault.Stop.{Stop}
 use Rattle.bound_certificate.specs.declared.fault.Stop.TheVariants.{At, OutOfMemory}
 use Rattle.bound_certificate.specs.declared.read_node.Kind.{Kind}
-use Rattle.bound_certificate.specs.declared.read_node.Kind.TheVariants.{Branch, Dual, Run, Open, Window}
+use Rattle.bound_certificate.specs.declared.read_node.Kind.TheVariants.{Branch, Dual, Run, Open, Window, BufferWindow}
 use Rattle.bound_certificate.specs.declared.cert.Node.{Node}
 use Rattle.bound_certificate.specs.declared.cert.Node.TheVariants as nodes
 use Rattle.bound_certificate.specs.Cert.{HasRoom}
@@ -58,15 +58,17 @@ IsStop text bytes OutOfMemory = Unit {0}
 
 -- ---- the texts of a certificate's parts
 
--- the kinds of nodes in a version: 2, multipliers, in version 1 alone, and 5, windows, in version 2 alone
+-- the kinds of nodes in a version: 2, multipliers, in version 1 alone, 5, windows, in versions 2 and 3, and 6, windows that see the buffers, in
+-- version 3 alone
 abbrev pub IsKind : (version kind : ℕ) → Type 0
 IsKind version zero = ⊥
 IsKind version (suc zero) = Unit {0}
 IsKind version (suc (suc zero)) = version ≡ 1
 IsKind version (suc (suc (suc zero))) = Unit {0}
 IsKind version (suc (suc (suc (suc zero)))) = Unit {0}
-IsKind version (suc (suc (suc (suc (suc zero))))) = version ≡ 2
-IsKind version (suc (suc (suc (suc (suc (suc kind)))))) = ⊥
+IsKind version (suc (suc (suc (suc (suc zero))))) = (version ≡ 2) ⊎ (version ≡ 3)
+IsKind version (suc (suc (suc (suc (suc (suc zero)))))) = version ≡ 3
+IsKind version (suc (suc (suc (suc (suc (suc (suc kind))))))) = ⊥
 
 -- a count of up to 64, in two bytes
 abbrev pub IsCount : List ℕ → Type 0
@@ -80,6 +82,18 @@ count_of bytes = slice_index bytes 1
 abbrev pub AreCounted : (size : ℕ) → List ℕ → Type 0
 AreCounted size = Then IsCount (λ count. IsBlock (size * count_of count))
 
+-- the greatest byte behind this one, where both are a number of up to 16 times 256
+abbrev pub last_most : ℕ → ℕ
+last_most second = if second == 16 then 0 else 255
+
+-- a count of up to 4,096, in two bytes
+abbrev pub IsLongCount : List ℕ → Type 0
+IsLongCount = Then (IsByte 0 16) (λ high. IsByte 0 (last_most (slice_index high 0)))
+
+-- such a count and as many items of so many bytes
+abbrev pub AreLongCounted : (size : ℕ) → List ℕ → Type 0
+AreLongCounted size = Then IsLongCount (λ count. IsBlock (size * from_be_bytes w16 count))
+
 -- what stands behind a node's kind
 abbrev pub IsBody : (kind : ℕ) → List ℕ → Type 0
 IsBody zero bytes = bytes ≡ []
@@ -88,7 +102,8 @@ IsBody (suc (suc zero)) bytes = AreCounted 16 bytes
 IsBody (suc (suc (suc zero))) bytes = IsByte 0 1 bytes
 IsBody (suc (suc (suc (suc zero)))) bytes = bytes ≡ []
 IsBody (suc (suc (suc (suc (suc zero))))) bytes = AreCounted 24 bytes
-IsBody (suc (suc (suc (suc (suc (suc kind)))))) bytes = bytes ≡ []
+IsBody (suc (suc (suc (suc (suc (suc zero)))))) bytes = AreLongCounted 25 bytes
+IsBody (suc (suc (suc (suc (suc (suc (suc kind))))))) bytes = bytes ≡ []
 
 -- a node
 abbrev pub IsNode : (version : ℕ) → List ℕ → Type 0
@@ -101,10 +116,6 @@ IsMark = Then (IsByte 0x52 0x52) (λ _. Then (IsByte 0x4D 0x4D) (λ _. Then (IsB
 -- how many units there are and the version of each
 abbrev pub IsChoice : List ℕ → Type 0
 IsChoice = Then (IsBlock 4) (λ count. IsBlock (from_be_bytes w32 count))
-
--- the greatest third and fourth byte of the number of nodes, behind this second one
-abbrev pub last_most : ℕ → ℕ
-last_most second = if second == 16 then 0 else 255
 
 -- the least fourth byte of the number of nodes, behind this second and third one
 abbrev pub last_least : ℕ → ℕ → ℕ
@@ -132,7 +143,7 @@ IsTree version = Then IsNodeCount (λ count. AreTexts (from_be_bytes w32 count) 
 
 -- a certificate
 abbrev pub IsText : List ℕ → Type 0
-IsText = Then IsMark (λ _. Then (IsByte 1 2) (λ version. Then (IsBlock 16) (λ _. Then IsChoice (λ _. IsTree (slice_index version 0)))))
+IsText = Then IsMark (λ _. Then (IsByte 1 3) (λ version. Then (IsBlock 16) (λ _. Then IsChoice (λ _. IsTree (slice_index version 0)))))
 
 -- why whole bytes are no certificate's
 abbrev pub IsWholeStop : List ℕ → Stop → Type 0
@@ -146,6 +157,7 @@ code_of Dual = 2
 code_of Run = 3
 code_of Open = 4
 code_of Window = 5
+code_of BufferWindow = 6
 
 -- a node of this kind whose numbers have room
 abbrev pub IsOfKind : Kind → Node → Type 0
@@ -154,4 +166,5 @@ IsOfKind Dual (nodes.Dual priced) = HasRoom (nodes.Dual priced)
 IsOfKind Run (nodes.Run scheduled) = Unit {0}
 IsOfKind Open nodes.Open = Unit {0}
 IsOfKind Window (nodes.Window priced) = HasRoom (nodes.Window priced)
+IsOfKind BufferWindow (nodes.BufferWindow priced) = HasRoom (nodes.BufferWindow priced)
 IsOfKind kind node = ⊥

@@ -1,14 +1,7 @@
 -- Counts that the room of a window is made of.
-use Rattle.std.specs.Prelude.{ℕ, ◌<◌, ◌≤◌, List, length, count_by, is_none, slice_index_or}
-use Rattle.std.specs.List.{range_with_len}
+use Rattle.std.specs.Prelude.{ℕ, ◌<◌, ◌≤◌, List, length, count_by, slice_index_or}
 use Rattle.version_table.specs.declared.table.AudioPacket.{AudioPacket}
-use Rattle.version_table.specs.declared.table.Table.{Table}
-use Rattle.slot_rule.specs.Timetable.{reserved}
 use Rattle.dual_bounds.specs.Room.{is_within}
-
--- how many slots below n are free
-unfoldable pub free_below : Table → (n : ℕ) → ℕ
-free_below table n = count_by (λ k. is_none (reserved table.slot (length table.programs) k)) (range_with_len 0 n)
 
 -- how many of some audio packets are due in the window
 unfoldable pub audio_within : (from due : ℕ) → List AudioPacket → ℕ

@@ -20,20 +20,26 @@ pub fn windows(
 ) -> Result<Windows, OutOfMemory>
     ensures { IfOk result (λ found. AreSearched found.items) }
 {
-    let units = mixed.units.as_slice();
     let mut slack = smallest.copied(alloc)?;
-    let mut free = vec![in alloc; true; units.len()]?;
-    fix(&mut slack, free.as_mut_slice(), mixed, fixed.as_slice());
-    let intervals = match overfull(&slack, units.len()) {
-        Some(interval) => vec![in alloc; interval; 1]?,
-        None => priced(
-            alloc,
-            &mut slack,
-            free.as_mut_slice(),
-            mixed.steps.as_slice(),
-        )?,
-    };
-    Ok(windows_of_intervals(&slack, units, intervals.as_slice()))
+    let intervals = intervals_of(alloc, mixed, &mut slack, fixed)?;
+    Ok(windows_of_intervals(&slack, mixed.units.as_slice(), intervals.as_slice()))
+}
+
+/// The intervals of the relaxation that are filled where these versions are fixed, with their prices beside those round them, from
+/// the slack beside the smallest versions.
+pub fn intervals_of(
+    alloc: Global,
+    mixed: &MixedTable,
+    slack: &mut Slack,
+    fixed: &Fixed,
+) -> Result<Vec<Interval>, OutOfMemory> {
+    let units = mixed.units.len();
+    let mut free = vec![in alloc; true; units]?;
+    fix(slack, free.as_mut_slice(), mixed, fixed.as_slice());
+    match overfull(slack, units) {
+        Some(interval) => Ok(vec![in alloc; interval; 1]?),
+        None => priced(alloc, slack, free.as_mut_slice(), mixed.steps.as_slice()),
+    }
 }
 
 /// Gives the units of which a version is fixed the packets of that version, and no steps.

@@ -1,9 +1,10 @@
 use list_types::OutOfMemory;
 use std::alloc::Global;
 use std::cmp::Reverse;
+use stream_constants::decoder::EB_UNIT_BYTES;
 use stream_constants::packets::PAYLOAD_BYTES;
 use version_table::limits::VERSIONS_MOST;
-use version_table::{Table, Unit, Version};
+use version_table::{ProgramRow, Table, Unit, Version};
 
 /// What a ratio of distortion to packets is multiplied by, so that it is a whole number to more than the 1/256 of prices.
 const RATIO_PARTS: u64 = 1 << 15;
@@ -58,15 +59,50 @@ pub struct MixedTable {
     packets: Vec<u32>,
 }
 
+/// Which versions are mixed.
+#[derive(Clone, Copy)]
+enum VersionLimit {
+    /// All.
+    None,
+    /// Those that their program's elementary buffer holds.
+    Buffer,
+}
+
+impl VersionLimit {
+    /// The bytes that a version of a program has at most.
+    fn bytes(self, program: &ProgramRow) -> u64 {
+        match self {
+            VersionLimit::None => u64::MAX,
+            VersionLimit::Buffer => EB_UNIT_BYTES.saturating_mul(u64::from(program.vbv)),
+        }
+    }
+}
+
 impl MixedTable {
     /// The units and steps of a table. Fails only for want of memory.
     pub fn new(alloc: Global, table: &Table) -> Result<MixedTable, OutOfMemory> {
+        MixedTable::of_versions(alloc, table, VersionLimit::None)
+    }
+
+    /// The units and steps of a table, where versions that their program's elementary buffer doesn't hold are left out. Fails
+    /// only for want of memory.
+    pub fn held(alloc: Global, table: &Table) -> Result<MixedTable, OutOfMemory> {
+        MixedTable::of_versions(alloc, table, VersionLimit::Buffer)
+    }
+
+    /// The units and steps over the versions that keep a limit. Fails only for want of memory.
+    fn of_versions(
+        alloc: Global,
+        table: &Table,
+        limit: VersionLimit,
+    ) -> Result<MixedTable, OutOfMemory> {
         let mut units = Vec::new(alloc);
         let mut packets = Vec::new(alloc);
         let mut corners = Vec::new(alloc);
         for program in table.programs.as_slice() {
+            let most = limit.bytes(program);
             for unit in program.units.as_slice() {
-                add_unit(&mut units, &mut packets, &mut corners, unit)?;
+                add_unit(&mut units, &mut packets, &mut corners, unit, most)?;
             }
         }
         units.sort_by_key(|unit| unit.due)?;
@@ -100,6 +136,7 @@ fn add_unit(
     packets: &mut Vec<u32>,
     corners: &mut Vec<Corner>,
     unit: &Unit,
+    most: u64,
 ) -> Result<(), OutOfMemory> {
     let versions = packets.len();
     for version in unit.versions.as_slice() {
@@ -108,7 +145,7 @@ fn add_unit(
     let first = corners.len();
     let smallest = smallest_corner(unit.versions.as_slice());
     corners.push(smallest)?;
-    add_corners_from(corners, unit.versions.as_slice(), smallest)?;
+    add_corners_from(corners, unit.versions.as_slice(), most, smallest)?;
     units.push(MixedUnit {
         due: unit.due,
         packets: smallest.packets,
@@ -124,11 +161,12 @@ fn add_unit(
 fn add_corners_from(
     corners: &mut Vec<Corner>,
     versions: &[Version],
+    most: u64,
     smallest: Corner,
 ) -> Result<(), OutOfMemory> {
     let mut corner = smallest;
     for _step in 1..VERSIONS_MOST {
-        let Some(next) = next_corner(versions, corner) else {
+        let Some(next) = next_corner(versions, most, corner) else {
             return Ok(());
         };
         corners.push(next)?;
@@ -154,13 +192,17 @@ fn smallest_corner(versions: &[Version]) -> Corner {
     smallest
 }
 
-/// The next corner behind one: the version that saves most for a packet, and of those the largest.
-fn next_corner(versions: &[Version], from: Corner) -> Option<Corner> {
+/// The next corner behind one: of the versions of so many bytes at most the one that saves most for a packet, and of those the
+/// largest.
+fn next_corner(versions: &[Version], most_bytes: u64, from: Corner) -> Option<Corner> {
     let mut best = None;
     let mut most = HullStep::default();
     for version in versions {
         let corner = corner_of(*version);
-        if corner.packets > from.packets && corner.distortion < from.distortion {
+        if u64::from(version.bytes) <= most_bytes
+            && corner.packets > from.packets
+            && corner.distortion < from.distortion
+        {
             let own = step_between(0, from, corner);
             if own.saves_more(most) {
                 most = own;

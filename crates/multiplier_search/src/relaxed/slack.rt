@@ -2,9 +2,12 @@ ghost use Rattle.version_table.specs.Table.{IsValidTable};
 
 use super::hull::MixedUnit;
 use super::slack_tree::{SlackPlace, SlackTree};
-use dual_bounds::{capacity, window_capacity};
+use buffer_windows::stop;
+use dual_bounds::{capacity, slots_free_below, window_capacity};
 use list_types::OutOfMemory;
 use std::alloc::Global;
+use stream_constants::decoder::{EB_UNIT_BYTES, HOLD_TICKS};
+use stream_constants::packets::PAYLOAD_BYTES;
 use version_table::Table;
 
 /// How many packets more each unit may have beside what is taken: what is free up to each due time, and what stands before
@@ -15,6 +18,15 @@ pub struct Slack {
     tree: SlackTree,
     /// Whether the first unit may use all slots.
     from_start: bool,
+}
+
+/// Slack that counts what elementary buffers hold.
+#[derive(Drop)]
+pub struct HeldSlack {
+    /// The slack.
+    pub slack: Slack,
+    /// By unit: whether the buffers hold less than a second does.
+    pub held: Vec<bool>,
 }
 
 /// Units next to each other that fill their room, and what a packet of it is worth.
@@ -46,6 +58,34 @@ impl Slack {
         let from_start = starts_at_0(places.as_mut_slice());
         let tree = SlackTree::new(alloc, places.as_slice())?;
         Ok(Slack { tree, from_start })
+    }
+
+    /// The slack beside the smallest versions of these units, where before a unit's slots no more is sent than its elementary buffers
+    /// hold. Fails only for want of memory.
+    pub fn held(alloc: Global, table: &Table, units: &[MixedUnit]) -> Result<HeldSlack, OutOfMemory>
+        requires { IsValidTable table.now }
+    {
+        let end = last_due(units);
+        let whole = capacity(table, end);
+        let buffers = buffer_packets(table);
+        let mut places = Vec::new(alloc);
+        let mut held = Vec::new(alloc);
+        for unit in units {
+            let second = whole.saturating_sub(window_capacity(table, unit.due, end));
+            let buffered = below_buffers(table, units, buffers, unit.due);
+            places.push(SlackPlace {
+                above: capacity(table, unit.due),
+                below: second.max(buffered),
+                packets: i64::from(unit.packets),
+            })?;
+            held.push(second < buffered)?;
+        }
+        let from_start = starts_at_0(places.as_mut_slice());
+        let tree = SlackTree::new(alloc, places.as_slice())?;
+        Ok(HeldSlack {
+            slack: Slack { tree, from_start },
+            held,
+        })
     }
 
     /// The same slack. Fails only for want of memory.
@@ -83,6 +123,39 @@ impl Slack {
             due_at(units, interval.first)
         }
     }
+}
+
+/// The packets that the elementary buffers of all programs hold.
+fn buffer_packets(table: &Table) -> i64 {
+    let mut units: u64 = 0;
+    for program in table.programs.as_slice() {
+        units = units.saturating_add(u64::from(program.vbv));
+    }
+    (units.min(1 << 20) * EB_UNIT_BYTES / PAYLOAD_BYTES as u64) as i64
+}
+
+/// The packets that are sent before the slot in which a unit is due at least, so that no more than the buffers hold is left: half a
+/// packet is lost for each unit that may be held.
+fn below_buffers(table: &Table, units: &[MixedUnit], buffers: i64, due: u64) -> i64
+    requires { IsValidTable table.now }
+{
+    let before = due.saturating_sub(1);
+    let slot = u64::from(table.slot);
+    let begun = before / slot;
+    let latest = begun
+        .saturating_sub(1)
+        .saturating_mul(slot)
+        .saturating_add(HOLD_TICKS);
+    let first = units.partition_point(|unit| unit.due < due);
+    let behind = units.partition_point(|unit| unit.due <= latest);
+    let lost = (behind.saturating_sub(first) / 2) as i64;
+    let audio = (slots_free_below(table, stop(table.slot, before)) as i64).saturating_sub(capacity(
+        table, before,
+    ));
+    (slots_free_below(table, begun) as i64)
+        .saturating_sub(buffers)
+        .saturating_sub(lost)
+        .saturating_sub(audio)
 }
 
 /// The due time of a unit.

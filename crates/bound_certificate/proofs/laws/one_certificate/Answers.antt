@@ -1,4 +1,4 @@
-use Rattle.bound_certificate.proofs.Whole.{one_cert, stop_whole, stop_behind}
+use Rattle.bound_certificate.proofs.Whole.{one_cert}
 use Rattle.bound_certificate.proofs.laws.one_certificate.Goals as goal
 
 pub returns : goal.returns

@@ -1,5 +1,4 @@
 use Rattle.bound_certificate.proofs.Readings.{reading_is_one}
-use Rattle.bound_certificate.proofs.TextParts.{stop_mark}
 use Rattle.bound_certificate.proofs.laws.one_reading.Goals as goal
 
 pub returns : goal.returns

@@ -1,4 +1,4 @@
-use Rattle.std.proofs.Common.{◌≡◌, ℕ, List, [], ◌∷◌, ◌++◌, lit<}
+use Rattle.std.proofs.Common.{lit<}
 use Rattle.std.proofs.lemmas.Result.{err_from_is_err_and}
 use Rattle.bound_certificate.specs.Private.Texts.{IsByte}
 use Rattle.bound_certificate.proofs.Heads.{MarkTwo, MarkThree, mark_one, mark_two, mark_three, stop_byte}

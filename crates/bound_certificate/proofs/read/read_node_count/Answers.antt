@@ -1,4 +1,4 @@
-use Rattle.std.proofs.Common.{◌≡◌, ℕ, ◌≤◌, subst, List, [], ◌∷◌, ◌++◌, lit<}
+use Rattle.std.proofs.Common.{ℕ, ◌≤◌, subst, [], ◌∷◌, lit<}
 use Rattle.std.proofs.lemmas.Result.{err_from_is_err_and}
 use Rattle.bound_certificate.specs.Private.Texts.{AfterFirst, AfterSecond, AfterThird, IsByte, IsStop, last_most}
 use Rattle.bound_certificate.proofs.Heads.{nodes_one, nodes_two, nodes_three, stop_byte, last_fits}

@@ -1,6 +1,6 @@
 use Rattle.std.proofs.Common.{◌+◌, sym, subst}
 use Rattle.std.proofs.lemmas.Result.{err_from_is_err_and}
-use Rattle.bound_certificate.proofs.TreeParts.{HasRead, read_none, read_more, stop_nodes}
+use Rattle.bound_certificate.proofs.TreeParts.{HasRead, read_more, stop_nodes}
 use Rattle.bound_certificate.proofs.read.read_nodes.Goals as goal
 
 pub returns-in_err-read_node-clause-stop : goal.returns-in_err-read_node-clause-stop

@@ -25,3 +25,9 @@ returns-in_err-read_windows-in-Window-clause-stop c =
     let p = err_from_is_err_and c.from_residual-in_err-read_windows-in-Window.result c.from_residual-in_err-read_windows-in-Window.ensures.1 in
     rw (p.1, p.2) (subst (λ (kind : Kind). IsStop (IsBody (code_of kind)) c.args.cursor.now c.in_err-read_windows-in-Window.field-0.0) (sym c.in-Window.is)
     c.in_err-read_windows-in-Window.ensures.stop)
+
+pub returns-in_err-read_buffer_windows-in-BufferWindow-clause-stop : goal.returns-in_err-read_buffer_windows-in-BufferWindow-clause-stop
+returns-in_err-read_buffer_windows-in-BufferWindow-clause-stop c =
+    let p = err_from_is_err_and c.from_residual-in_err-read_buffer_windows-in-BufferWindow.result c.from_residual-in_err-read_buffer_windows-in-BufferWindow.ensures.1 in
+    rw (p.1, p.2) (subst (λ (kind : Kind). IsStop (IsBody (code_of kind)) c.args.cursor.now c.in_err-read_buffer_windows-in-BufferWindow.field-0.0) (sym c.in-BufferWindow.is)
+    c.in_err-read_buffer_windows-in-BufferWindow.ensures.stop)

@@ -30,7 +30,7 @@ loop-taken-preserved c =
     let at = c.loop-taken.at in
     λ ids order.
     let step = one_written nodes links c.loop-taken.nodes at c.loop-taken._taken ids (omega (arith, c.loop-taken-test.true, c.len-taken-end.ensures)) (c.loop-taken.invariant ids order) in
-    let node_is : c.copy_of.result ≡ node_of nodes at = c.copy_of.ensures ∙ get_or_read nodes at c.index.result.now step.0 c.index.ensures Open in
+    let node_is : c.in_ok-copy_of.field-0 ≡ node_of nodes at = c.in_ok-copy_of.ensures ∙ get_or_read nodes at c.index.result.now step.0 c.index.ensures Open in
     let next_is = ap (λ (l : Link). l.next)
     (get_or_read links at c.index-in-loop-taken.result.now (omega (arith, step.0, c.requires.links)) c.index-in-loop-taken.ensures (record { parent = 0; unit = 0; version = 0; next = 0 })) in
     subst (λ (n : ℕ). IsWritten nodes links c.push.new.self n (c.loop-taken._taken + 1) ids) (sym next_is)

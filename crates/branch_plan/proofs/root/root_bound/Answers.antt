@@ -20,7 +20,7 @@ pub overflow_cast-result : goal.overflow_cast-result
 overflow_cast-result c =
     let table = c.args.table.now in
     let known = c.args.known.now in
-    let small : distortion_of_choice table known.choice < 2 ^ 64 = distortion_fits table known.choice c.requires.valid c.requires.known.fits in
+    let small : distortion_of_choice table known.choice < 2 ^ 63 = distortion_fits table known.choice c.requires.valid c.requires.known.fits in
     let most : bound_of_value (value_of_windows table (unfixed table) c.args.windows.now.items) ≤ known.distortion =
     root_at_most table c.args.windows.now known c.requires.valid c.requires.windows c.requires.known in
     let fits : SFits w128 c.window_value.result = search rules in

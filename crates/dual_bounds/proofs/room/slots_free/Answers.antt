@@ -2,7 +2,7 @@ use Rattle.std.proofs.Common.{◌≡◌, ◌-◌, ◌/◌, ap, ap₂, ◌∙◌,
 use Rattle.std.specs.Int.{div_ceil}
 use Rattle.stream_constants.specs.declared.decoder.TheConstants.{HOLD_TICKS}
 use Rattle.dual_bounds.specs.declared.constants.TheConstants.{MARGIN_TICKS}
-use Rattle.dual_bounds.specs.Private.Counts.{free_below}
+use Rattle.dual_bounds.specs.Room.{free_below}
 use Rattle.dual_bounds.proofs.FreeSlots.{free_slots-is}
 use Rattle.dual_bounds.proofs.room.slots_free.Goals as goal
 

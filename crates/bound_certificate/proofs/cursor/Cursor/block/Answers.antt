@@ -1,4 +1,4 @@
-use Rattle.std.proofs.Common.{◌≡◌, ◌<◌, length, ap, sym, arith, rules}
+use Rattle.std.proofs.Common.{◌≡◌, ◌<◌, length, ap, arith, rules}
 use Rattle.bound_certificate.proofs.Parts.{short_block}
 use Rattle.bound_certificate.proofs.cursor.Cursor.block.Goals as goal
 

@@ -1,4 +1,4 @@
-use Rattle.std.proofs.Common.{◌≡◌, ℕ, ◌∷◌, ◌<◌, ◌≤◌, ◌^◌, List, [], refl, sym, ap, ◌∙◌, arith, rules, length, ⊎_elim}
+use Rattle.std.proofs.Common.{◌≡◌, ◌∷◌, ◌≤◌, sym, ap, ◌∙◌, arith, rules, length, ⊎_elim}
 use Rattle.std.proofs.lemmas.List.{nil_from_length}
 use Rattle.bound_certificate.proofs.Parts.{no_byte, bad_byte}
 use Rattle.bound_certificate.proofs.cursor.Cursor.byte.Goals as goal

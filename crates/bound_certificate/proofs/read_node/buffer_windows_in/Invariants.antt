@@ -1,0 +1,7 @@
+use Rattle.bound_certificate.specs.Cert.{IsStatedBufferWindow}
+use Rattle.bound_certificate.specs.Spelling.{bytes_of_buffer_window}
+use Rattle.bound_certificate.proofs.NodeParts.{HasTaken}
+use Rattle.bound_certificate.proofs.read_node.buffer_windows_in.Given as goal
+
+abbrev pub invariant-loop-i : goal.invariant-loop-i
+invariant-loop-i l = HasTaken bytes_of_buffer_window IsStatedBufferWindow 25 l.block l.windows l.i
