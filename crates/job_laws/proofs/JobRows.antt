@@ -9,6 +9,7 @@ use Rattle.program_reader.specs.declared.program.Program.{Program}
 use Rattle.mux_writer.specs.Layout.{video_pid, with_output_pids, with_pids_from}
 use Rattle.job_stream.specs.Stream.{layout_of, output_maps}
 use Rattle.output_laws.specs.Fields.{HaveNumbersInRange, IsMapInRange}
+use Rattle.job_stream.proofs.LayoutRows.{HasKinds}
 
 abbrev HasKind : Stream → Type 0
 HasKind stream = stream.kind < 2 ^ 8
@@ -33,4 +34,3 @@ in-range job programs valid kinds = record {
   stream_id = omega (arith, valid.stream_id);
   maps = maps-in-range 0 job.programs programs valid.programs kinds;
 }
-use Rattle.job_stream.proofs.LayoutRows.{HasKinds}

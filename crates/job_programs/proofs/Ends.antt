@@ -1,11 +1,15 @@
 -- What ends a reading: a rise of a count is the last of it.
-use Rattle.std.proofs.Common.{◌≡◌, ℕ, Result, Err, ap}
+use Rattle.std.proofs.Common.{◌≡◌, ◌<◌, ℕ, Result, Err, ap, arith}
 use Rattle.shelf_io.specs.declared.fault.Fault.{Fault}
 use Rattle.shelf_io.specs.declared.fault.Fault.TheVariants.{Failed, Missing, OutOfMemory}
 use Rattle.shelf_io.specs.Causes.{ReadCauses}
 use Rattle.shelf_io.specs.Counts.{ShelfCounts}
 use Rattle.shelf_io.proofs.Counted.{rises_later}
 use Rattle.job_programs.specs.Told.{ReadsEnd}
+
+-- a count that stands still didn't rise
+pub no_rise : (n : ℕ) → n < n → ⊥
+no_rise n rise = omega arith
 
 -- a call that reads one file
 pub ends_read : {failed missing : Type 0} {old new : ShelfCounts} {since : ℕ} → ReadCauses failed missing old new → (failed → since ≡ 0) → (missing → since ≡ 0)

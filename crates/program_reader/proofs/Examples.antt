@@ -1,9 +1,11 @@
 -- The definitions computed at worked examples.
-use Rattle.std.proofs.Common.{◌≡◌, ℕ, ◌+◌, true, false, List, [], ◌∷◌, take, Some, None, refl, sym, subst, inl, arith, ℤ, pos, ◌+ℤ◌}
+use Rattle.std.proofs.Common.{◌≡◌, ℕ, ◌==◌, true, false, List, [], ◌∷◌, take, Option, Some, None, refl, sym, ◌∙◌, subst, inl, arith, ℤ, pos, ◌+ℤ◌}
+use Rattle.std.proofs.lemmas.Int.{ints}
 use Rattle.bit_lists.specs.Fields.{bit, bits}
 use Rattle.ts_demux.specs.declared.demuxed.PesUnit.{PesUnit}
 use Rattle.syntax_types.specs.declared.picture.PicCoding.{PicCoding}
 use Rattle.syntax_types.specs.declared.picture.SeqState.{SeqState}
+use Rattle.syntax_types.specs.declared.picture.TheConstants.{B_PICTURE, P_PICTURE}
 use Rattle.pes_units.specs.TimeAxis.{IsUnwrapped}
 use Rattle.picture_grammar.specs.Macroblock.{is_frame}
 use Rattle.program_reader.specs.declared.pes_packets.PlacedPacket.{PlacedPacket}
@@ -12,7 +14,8 @@ use Rattle.program_reader.specs.declared.program_fault.SourceKind.TheVariants as
 use Rattle.program_reader.specs.declared.timed_picture.Role.{Role}
 use Rattle.program_reader.specs.declared.timed_picture.Role.TheVariants.{Frame, FirstField, SecondField}
 use Rattle.program_reader.specs.declared.timed_picture.TimedPicture.{TimedPicture}
-use Rattle.program_reader.specs.Units.{role_behind, frame_period, share_of, IsTimed, HasNoTime, IsCoded, IsUnitRefused}
+use Rattle.program_reader.specs.Intervals.{shown_as, share_of, shown_meanwhile}
+use Rattle.program_reader.specs.Units.{role_behind, IsTimed, HasNoTime, IsCoded, IsUnitRefused}
 use Rattle.program_reader.specs.Packets.{taken, packets_dropped}
 use Rattle.program_reader.specs.PictureTimes.{begins_picture}
 use Rattle.program_reader.specs.Audio.{IsDue, payload_place, piece_places, piece_size}
@@ -28,39 +31,35 @@ across_the_round before is =
 dues_apart : IsDue 13500000 (pos 2576979297600) (pos 2576979297600) 13500000 × IsDue 13500000 (pos 2576979297600) (pos 2576980377600) 14580000
 dues_apart = (refl, refl)
 
--- ---- fields at 25 frames a second: a first field at 27,000,000 ticks, then a second field and a first field without times
-
-fields_25 : (27000000 + share_of FirstField (frame_period 3) ≡ 27540000) × (27540000 + share_of SecondField (frame_period 3) ≡ 28080000)
-fields_25 = (refl, refl)
-
--- at 24,000/1,001 frames a second half a period is rounded down, and the second field takes the rest
-fields_24 : (27000000 + share_of FirstField (frame_period 1) ≡ 27563062) × (27563062 + share_of SecondField (frame_period 1) ≡ 28126125)
-fields_24 = (refl, refl)
-
--- a frame lasts a frame period
-frames_30 : share_of Frame (frame_period 4) ≡ 900900
-frames_30 = refl
+-- ---- roles of fields
 
 -- a second field follows a first one, and a field behind a second one or behind a frame is a first one
 roles : (role_behind false (Some FirstField) ≡ SecondField) × (role_behind false (Some SecondField) ≡ FirstField) × (role_behind false (Some Frame) ≡ FirstField)
     × (role_behind false None ≡ FirstField) × (role_behind true (Some SecondField) ≡ Frame)
 roles = (refl, refl, refl, refl, refl)
 
--- ---- no time: for the first unit, and behind a picture that repeats a field
+-- ---- no time: for the first unit alone
 
 no_time_first : HasNoTime None None
 no_time_first = tt
 
-no_time_behind : (before : TimedPicture) → before.coding.repeat_first_field ≡ true → HasNoTime (Some before) None
-no_time_behind before is = is
+time_behind : (before : TimedPicture) → HasNoTime (Some before) None → ⊥
+time_behind before is = is
 
--- a unit behind a frame that repeats none is a frame period later
-timed_behind : (before : TimedPicture) → before.role ≡ Frame → before.seq.rate_code ≡ 3 → before.coding.repeat_first_field ≡ false → before.ticks ≡ pos 27000000 →
-    IsTimed (Some before) None before.stated (pos 28080000)
-timed_behind before role rate none ticks = (none, refl, one_period before.ticks before.role before.seq.rate_code ticks role rate)
+-- a unit behind a P frame is later by what the last I or P frame before that is shown for, and not by a frame period
+timed_behind : (before : TimedPicture) → before.role ≡ Frame → before.coding.kind ≡ P_PICTURE → before.reference_before ≡ Some 1351350 → before.ticks ≡ pos 27000000 →
+    IsTimed (Some before) None before.stated (pos 28351350)
+timed_behind before role kind reference ticks =
+    (refl, one_more before.ticks before.role before.coding.kind (shown_as before.role before.seq before.coding) before.reference_before before.seq.rate_code ticks role kind reference)
   where
-    one_period : (ticks : ℤ) (role : Role) (code : ℕ) → ticks ≡ pos 27000000 → role ≡ Frame → code ≡ 3 → pos 28080000 ≡ ticks +ℤ pos (share_of role (frame_period code))
-    one_period ticks role code t r c = rw (t, r, c) refl
+    one_more : (ticks : ℤ) (role : Role) (kind own : ℕ) (reference : Option ℕ) (code : ℕ) → ticks ≡ pos 27000000 → role ≡ Frame → kind ≡ P_PICTURE → reference ≡ Some 1351350 →
+        pos 28351350 ≡ ticks +ℤ pos (share_of role (shown_meanwhile (kind == B_PICTURE) own reference code) code)
+    one_more ticks role kind own reference code t r k is = rw (t, r, k, is) refl
+
+not_a_period_behind : (before : TimedPicture) → before.role ≡ Frame → before.coding.kind ≡ P_PICTURE → before.reference_before ≡ Some 1351350 → before.ticks ≡ pos 27000000 →
+    IsTimed (Some before) None before.stated (pos 27900900) → ⊥
+not_a_period_behind before role kind reference ticks is =
+    let there : pos 28351350 ≡ pos 27900900 = (timed_behind before role kind reference ticks).1 ∙ sym is.1 in omega (arith, ints, there)
 
 -- ---- a frame behind a first field refuses also the last unit, which isn't dropped for it
 

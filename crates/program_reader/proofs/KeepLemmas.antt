@@ -54,6 +54,8 @@ use Rattle.std.proofs.lemmas.List.Elements.{All-push, All-cons, All-tail, All-ni
 use Rattle.bit_lists.specs.Fields.{bit_list}
 use Rattle.pes_units.specs.declared.times.Times.{Times}
 use Rattle.pes_units.specs.Times.{decoding_time}
+use Rattle.syntax_types.specs.declared.picture.PicCoding.{PicCoding}
+use Rattle.syntax_types.specs.declared.picture.SeqState.{SeqState}
 use Rattle.ts_demux.specs.declared.demuxed.PesUnit.{PesUnit}
 use Rattle.picture_grammar.specs.Picture.{IsState}
 use Rattle.picture_grammar.specs.Refusal.{Refusal}
@@ -71,13 +73,15 @@ use Rattle.program_reader.specs.declared.timed_picture.TimedPicture.{TimedPictur
 use Rattle.program_reader.specs.declared.unit_picture.TimedUnit.{TimedUnit}
 use Rattle.program_reader.specs.Packets.{pes_payload_of, joined, placed_from}
 use Rattle.program_reader.specs.PictureTimes.{first_picture, is_first_picture_in, no_times, times_at, times_of_unit}
-use Rattle.program_reader.specs.Units.{unit_bytes, state_behind, frame_period, share_of, ticks_behind, IsTimed, IsNext, IsBroken, IsUnitRefused}
+use Rattle.program_reader.specs.Intervals.{frame_period, frame_shown, is_b, nearest, share_of, shown_as, shown_meanwhile}
+use Rattle.program_reader.specs.Units.{unit_bytes, state_behind, ticks_behind, IsTimed, IsNext, IsBroken, IsUnitRefused}
 use Rattle.program_reader.specs.Units.{AreInOrder, last_of, is_none_left, IsUnitsFault, AreKept}
 use Rattle.program_reader.specs.Private.AudioStarts.{IsNear}
 use Rattle.program_reader.specs.Private.Dues.{IsTime}
 use Rattle.program_reader.specs.Private.KeptUnits.{IsVideo, Fits, row_of, AreRows, first_of, far, IsPictureNear, Keep, AreUnitsKept}
 use Rattle.program_reader.specs.Private.StampedPictures.{stamp_at, stamps_of, times_of_stamp, AreRising, TellTimes, IsCounted}
-use Rattle.program_reader.specs.Private.TimedPictures.{IsPossible, IsFound}
+use Rattle.program_reader.specs.Private.TimedPictures.{IsPossible, IsFound, IsShown, LastTells}
+use Rattle.program_reader.proofs.ReferenceLemmas.{before_is, before_shown, behind_is, behind_shown}
 use Rattle.program_reader.proofs.StartLemmas.{near_step, near_more, near_low, near_high}
 use Rattle.program_reader.proofs.StampLemmas.{times_stamped, stamps_rise, tells_later}
 use Rattle.program_reader.proofs.StreamLemmas.{placed_times}
@@ -94,13 +98,29 @@ last_push pictures picture = from None pictures
     from before [] = refl
     from before (p ∷ ps) = from (Some p) ps
 
-pub order_push : (es : List ℕ) (packets : List PlacedPacket) (before : Option TimedPicture) (units : List (ℕ × ℕ)) (pictures : List TimedPicture) (unit : ℕ × ℕ) (picture : TimedPicture) →
-    AreInOrder es packets before units pictures → IsNext es packets (last_or before pictures) unit picture →
-    AreInOrder es packets before (units ++ unit ∷ []) (pictures ++ picture ∷ [])
-order_push es packets before [] [] unit picture are next = (next, tt)
-order_push es packets before [] (p ∷ ps) unit picture are next = absurd are
-order_push es packets before (u ∷ us) [] unit picture are next = absurd are
-order_push es packets before (u ∷ us) (p ∷ ps) unit picture are next = (are.0, order_push es packets (Some p) us ps unit picture are.1 next)
+-- earlier pictures, the nearest first, and those behind them
+abbrev pub all_earlier : (earlier pictures : List TimedPicture) → List TimedPicture
+all_earlier earlier [] = earlier
+all_earlier earlier (p ∷ ps) = all_earlier (p ∷ earlier) ps
+
+pub nearest_last : (earlier pictures : List TimedPicture) → nearest (all_earlier earlier pictures) ≡ last_or (nearest earlier) pictures
+nearest_last earlier [] = refl
+nearest_last earlier (p ∷ ps) = nearest_last (p ∷ earlier) ps
+
+pub last_tells : (es : List ℕ) (packets : List PlacedPacket) (earlier : List TimedPicture) (units : List (ℕ × ℕ)) (pictures : List TimedPicture) → AreInOrder es packets earlier units pictures →
+    LastTells earlier → LastTells (all_earlier earlier pictures)
+last_tells es packets earlier [] [] are tells = tells
+last_tells es packets earlier [] (p ∷ ps) are tells = absurd are
+last_tells es packets earlier (u ∷ us) [] are tells = absurd are
+last_tells es packets earlier (u ∷ us) (p ∷ ps) are tells = last_tells es packets (p ∷ earlier) us ps are.1 are.0.reference
+
+pub order_push : (es : List ℕ) (packets : List PlacedPacket) (earlier : List TimedPicture) (units : List (ℕ × ℕ)) (pictures : List TimedPicture) (unit : ℕ × ℕ) (picture : TimedPicture) →
+    AreInOrder es packets earlier units pictures → IsNext es packets (all_earlier earlier pictures) unit picture →
+    AreInOrder es packets earlier (units ++ unit ∷ []) (pictures ++ picture ∷ [])
+order_push es packets earlier [] [] unit picture are next = (next, tt)
+order_push es packets earlier [] (p ∷ ps) unit picture are next = absurd are
+order_push es packets earlier (u ∷ us) [] unit picture are next = absurd are
+order_push es packets earlier (u ∷ us) (p ∷ ps) unit picture are next = (are.0, order_push es packets (p ∷ earlier) us ps unit picture are.1 next)
 
 pub rows_push : (units : List (ℕ × ℕ)) (pictures : List TimedPicture) (rows : List KeptUnit) (unit : ℕ × ℕ) (picture : TimedPicture) (row : KeptUnit) → AreRows units pictures rows →
     row ≡ row_of unit picture → AreRows (units ++ unit ∷ []) (pictures ++ picture ∷ []) (rows ++ row ∷ [])
@@ -121,19 +141,50 @@ first_push (p ∷ ps) picture = refl
 abbrev pub IsTickUnit : KeptUnit → Type 0
 IsTickUnit unit = IsTime unit.ticks
 
-period_most : (code : ℕ) → 1 ≤ code → code ≤ 5 → frame_period code ≤ 1126125
-period_most zero l m = absurd (omega arith)
-period_most (suc zero) l m = omega arith
-period_most (suc (suc zero)) l m = omega arith
-period_most (suc (suc (suc zero))) l m = omega arith
-period_most (suc (suc (suc (suc zero)))) l m = omega arith
-period_most (suc (suc (suc (suc (suc zero))))) l m = omega arith
-period_most (suc (suc (suc (suc (suc (suc n)))))) l m = absurd (omega arith)
+period_bounds : (code : ℕ) → 1 ≤ code → code ≤ 5 → (900000 ≤ frame_period code) × (frame_period code ≤ 1126125)
+period_bounds zero l m = absurd (omega arith)
+period_bounds (suc zero) l m = (omega arith, omega arith)
+period_bounds (suc (suc zero)) l m = (omega arith, omega arith)
+period_bounds (suc (suc (suc zero))) l m = (omega arith, omega arith)
+period_bounds (suc (suc (suc (suc zero)))) l m = (omega arith, omega arith)
+period_bounds (suc (suc (suc (suc (suc zero))))) l m = (omega arith, omega arith)
+period_bounds (suc (suc (suc (suc (suc (suc n)))))) l m = absurd (omega arith)
 
-share_most : (role : Role) (period : ℕ) → period ≤ 1126125 → share_of role period ≤ 1126125
-share_most Frame period le = le
-share_most FirstField period le = omega arith
-share_most SecondField period le = omega arith
+-- what a frame is shown for, by the bounds of a frame period
+frame_bounds : (repeats progressive top_first : Bool) (code : ℕ) → 900000 ≤ frame_period code → frame_period code ≤ 1126125 → IsShown (frame_shown repeats progressive top_first code)
+frame_bounds false progressive top_first code least most = (omega (arith, least), omega (arith, most))
+frame_bounds true false top_first code least most = (omega (arith, least), omega (arith, most))
+frame_bounds true true false code least most = (omega (arith, least), omega (arith, most))
+frame_bounds true true true code least most = (omega (arith, least), omega (arith, most))
+
+shown_bounds : (role : Role) (seq : SeqState) (coding : PicCoding) → IsState seq → IsShown (shown_as role seq coding)
+shown_bounds Frame seq coding state =
+    let bounds = period_bounds seq.rate_code state.rate_code.0 state.rate_code.1 in
+    frame_bounds coding.repeat_first_field seq.progressive coding.top_field_first seq.rate_code bounds.0 bounds.1
+shown_bounds FirstField seq coding state =
+    let bounds = period_bounds seq.rate_code state.rate_code.0 state.rate_code.1 in (bounds.0, omega (arith, bounds.1))
+shown_bounds SecondField seq coding state =
+    let bounds = period_bounds seq.rate_code state.rate_code.0 state.rate_code.1 in (bounds.0, omega (arith, bounds.1))
+
+meanwhile_most : (b : Bool) (own : ℕ) (reference : Option ℕ) (code : ℕ) → own ≤ 3378375 → IfSome reference IsShown → frame_period code ≤ 1126125 →
+    shown_meanwhile b own reference code ≤ 3378375
+meanwhile_most true own reference code own_most shown period = own_most
+meanwhile_most false own None code own_most shown period = omega (arith, period)
+meanwhile_most false own (Some r) code own_most shown period = shown.1
+
+share_most : (role : Role) (shown code : ℕ) → shown ≤ 3378375 → frame_period code ≤ 1126125 → share_of role shown code ≤ 3378375
+share_most Frame shown code le period = le
+share_most FirstField shown code le period = omega (arith, period)
+share_most SecondField shown code le period = omega (arith, le)
+
+-- the decoding interval of a picture
+interval_most : (picture : TimedPicture) → IsState picture.seq → IfSome picture.reference_before IsShown → ticks_behind picture ≤ 3378375
+interval_most picture state shown =
+    let code = picture.seq.rate_code in
+    let period : frame_period code ≤ 1126125 = (period_bounds code state.rate_code.0 state.rate_code.1).1 in
+    share_most picture.role (shown_meanwhile (is_b picture.coding) (shown_as picture.role picture.seq picture.coding) picture.reference_before code) code
+    (meanwhile_most (is_b picture.coding) (shown_as picture.role picture.seq picture.coding) picture.reference_before code
+    (shown_bounds picture.role picture.seq picture.coding state).1 shown period) period
 
 abbrev IsFar : ℕ → ℕ → ℤ → Type 0
 IsFar count units ticks = (neg_ℤ (pos (far count units)) ≤ℤ ticks) × (ticks ≤ℤ pos (far count units))
@@ -142,40 +193,40 @@ IsFar count units ticks = (neg_ℤ (pos (far count units)) ≤ℤ ticks) × (tic
 far_stated : (stated ticks : ℤ) (count units : ℕ) → IsNear count stated → ticks ≡ pos 300 *ℤ stated → IsFar count units ticks
 far_stated stated ticks count units near is = (low stated ticks count units near.low is, high stated ticks count units near.high is)
   where
-    low : (s t : ℤ) (c u : ℕ) → neg_ℤ (pos (8589934592 + c * 4294967296)) ≤ℤ s → t ≡ pos 300 *ℤ s → neg_ℤ (pos (300 * (8589934592 + c * 4294967296) + 1126125 * u)) ≤ℤ t
+    low : (s t : ℤ) (c u : ℕ) → neg_ℤ (pos (8589934592 + c * 4294967296)) ≤ℤ s → t ≡ pos 300 *ℤ s → neg_ℤ (pos (300 * (8589934592 + c * 4294967296) + 3378375 * u)) ≤ℤ t
     low s t c u near is = omega (arith, ints)
 
-    high : (s t : ℤ) (c u : ℕ) → s ≤ℤ pos (8589934592 + c * 4294967296) → t ≡ pos 300 *ℤ s → t ≤ℤ pos (300 * (8589934592 + c * 4294967296) + 1126125 * u)
+    high : (s t : ℤ) (c u : ℕ) → s ≤ℤ pos (8589934592 + c * 4294967296) → t ≡ pos 300 *ℤ s → t ≤ℤ pos (300 * (8589934592 + c * 4294967296) + 3378375 * u)
     high s t c u near is = omega (arith, ints)
 
 -- a time that is told from the one before
-far_untold : (before ticks : ℤ) (behind count units : ℕ) → IsFar count units before → behind ≤ 1126125 → ticks ≡ before +ℤ pos behind → IsFar count (units + 1) ticks
+far_untold : (before ticks : ℤ) (behind count units : ℕ) → IsFar count units before → behind ≤ 3378375 → ticks ≡ before +ℤ pos behind → IsFar count (units + 1) ticks
 far_untold before ticks behind count units near le is = (low before ticks behind count units near.0 is, high before ticks behind count units near.1 le is)
   where
-    low : (b t : ℤ) (n c u : ℕ) → neg_ℤ (pos (300 * (8589934592 + c * 4294967296) + 1126125 * u)) ≤ℤ b → t ≡ b +ℤ pos n →
-        neg_ℤ (pos (300 * (8589934592 + c * 4294967296) + 1126125 * (u + 1))) ≤ℤ t
+    low : (b t : ℤ) (n c u : ℕ) → neg_ℤ (pos (300 * (8589934592 + c * 4294967296) + 3378375 * u)) ≤ℤ b → t ≡ b +ℤ pos n →
+        neg_ℤ (pos (300 * (8589934592 + c * 4294967296) + 3378375 * (u + 1))) ≤ℤ t
     low b t n c u near is = omega (arith, ints)
 
-    high : (b t : ℤ) (n c u : ℕ) → b ≤ℤ pos (300 * (8589934592 + c * 4294967296) + 1126125 * u) → n ≤ 1126125 → t ≡ b +ℤ pos n →
-        t ≤ℤ pos (300 * (8589934592 + c * 4294967296) + 1126125 * (u + 1))
+    high : (b t : ℤ) (n c u : ℕ) → b ≤ℤ pos (300 * (8589934592 + c * 4294967296) + 3378375 * u) → n ≤ 3378375 → t ≡ b +ℤ pos n →
+        t ≤ℤ pos (300 * (8589934592 + c * 4294967296) + 3378375 * (u + 1))
     high b t n c u near le is = omega (arith, ints)
 
 far_more : (ticks : ℤ) (count more units : ℕ) → count ≤ more → IsFar count units ticks → IsFar more units ticks
 far_more ticks count more units le near = (low ticks count more units le near.0, high ticks count more units le near.1)
   where
-    low : (t : ℤ) (c d u : ℕ) → c ≤ d → neg_ℤ (pos (300 * (8589934592 + c * 4294967296) + 1126125 * u)) ≤ℤ t → neg_ℤ (pos (300 * (8589934592 + d * 4294967296) + 1126125 * u)) ≤ℤ t
+    low : (t : ℤ) (c d u : ℕ) → c ≤ d → neg_ℤ (pos (300 * (8589934592 + c * 4294967296) + 3378375 * u)) ≤ℤ t → neg_ℤ (pos (300 * (8589934592 + d * 4294967296) + 3378375 * u)) ≤ℤ t
     low t c d u le near = omega (arith, ints)
 
-    high : (t : ℤ) (c d u : ℕ) → c ≤ d → t ≤ℤ pos (300 * (8589934592 + c * 4294967296) + 1126125 * u) → t ≤ℤ pos (300 * (8589934592 + d * 4294967296) + 1126125 * u)
+    high : (t : ℤ) (c d u : ℕ) → c ≤ d → t ≤ℤ pos (300 * (8589934592 + c * 4294967296) + 3378375 * u) → t ≤ℤ pos (300 * (8589934592 + d * 4294967296) + 3378375 * u)
     high t c d u le near = omega (arith, ints)
 
 far_tick : (ticks : ℤ) (count units : ℕ) → count ≤ 2855696 → units ≤ 1073741825 → IsFar count units ticks → (neg_ℤ (pos (4 * 10 ^ 18)) ≤ℤ ticks) × (ticks ≤ℤ pos (4 * 10 ^ 18))
 far_tick ticks count units few units_few near = (low ticks count units few units_few near.0, high ticks count units few units_few near.1)
   where
-    low : (t : ℤ) (c u : ℕ) → c ≤ 2855696 → u ≤ 1073741825 → neg_ℤ (pos (300 * (8589934592 + c * 4294967296) + 1126125 * u)) ≤ℤ t → neg_ℤ (pos 4000000000000000000) ≤ℤ t
+    low : (t : ℤ) (c u : ℕ) → c ≤ 2855696 → u ≤ 1073741825 → neg_ℤ (pos (300 * (8589934592 + c * 4294967296) + 3378375 * u)) ≤ℤ t → neg_ℤ (pos 4000000000000000000) ≤ℤ t
     low t c u few less near = omega (arith, ints)
 
-    high : (t : ℤ) (c u : ℕ) → c ≤ 2855696 → u ≤ 1073741825 → t ≤ℤ pos (300 * (8589934592 + c * 4294967296) + 1126125 * u) → t ≤ℤ pos 4000000000000000000
+    high : (t : ℤ) (c u : ℕ) → c ≤ 2855696 → u ≤ 1073741825 → t ≤ℤ pos (300 * (8589934592 + c * 4294967296) + 3378375 * u) → t ≤ℤ pos 4000000000000000000
     high t c u few less near = omega (arith, ints)
 
 pub possible_near : (picture : TimedPicture) (count units : ℕ) → count ≤ 2855696 → units ≤ 1073741825 → IsPictureNear count units picture → IsPossible picture
@@ -185,6 +236,8 @@ possible_near picture count units few units_few near = let ticks = far_tick pict
   stated_most = near_high picture.stated count few near.stated;
   ticks_least = wide_low picture.ticks ticks.0;
   ticks_most = wide_high picture.ticks ticks.1;
+  shown_before = near.shown_before;
+  shown_behind = near.shown_behind;
 }
   where
     wide_low : (t : ℤ) → neg_ℤ (pos 4000000000000000000) ≤ℤ t → neg_ℤ (pos 4611686018427387904) ≤ℤ t
@@ -194,11 +247,30 @@ possible_near picture count units few units_few near = let ticks = far_tick pict
     wide_high t le = omega (arith, ints)
 
 -- the state in force behind a unit
-state_next : (es : List ℕ) (packets : List PlacedPacket) (before : Option TimedPicture) (unit : ℕ × ℕ) (picture : TimedPicture) → IfSome before IsPossible →
-    IsNext es packets before unit picture → IsState picture.seq
-state_next es packets before unit picture possible next =
+state_next : (es : List ℕ) (packets : List PlacedPacket) (earlier : List TimedPicture) (unit : ℕ × ℕ) (picture : TimedPicture) → IfSome (nearest earlier) IsPossible →
+    IsNext es packets earlier unit picture → IsState picture.seq
+state_next es packets earlier unit picture possible next =
     subst IsState next.coded.seq_is
-    (state-of_unit (state_behind before) next.coded.picture (bit_list (unit_bytes es unit)) [] (may_precede before possible) next.coded.whole.spelled)
+    (state-of_unit (state_behind (nearest earlier)) next.coded.picture (bit_list (unit_bytes es unit)) [] (may_precede (nearest earlier) possible) next.coded.whole.spelled)
+
+-- what it says of the last coded I or P frame
+shown_next : (es : List ℕ) (packets : List PlacedPacket) (earlier : List TimedPicture) (unit : ℕ × ℕ) (picture : TimedPicture) → IfSome (nearest earlier) IsPossible → LastTells earlier →
+    IsNext es packets earlier unit picture → IfSome picture.reference_before IsShown × IfSome picture.reference_behind IsShown
+shown_next es packets earlier unit picture possible tells next = (
+  subst (λ (r : Option ℕ). IfSome r IsShown) (before_is earlier picture.coding picture.role tells next.role_is ∙ sym next.reference.before)
+      (before_shown picture.role (nearest earlier) (befores (nearest earlier) possible) (behinds (nearest earlier) possible)),
+  subst (λ (r : Option ℕ). IfSome r IsShown) (behind_is earlier picture tells ∙ sym next.reference.behind)
+      (behind_shown picture.role picture.seq picture.coding (nearest earlier)
+      (shown_bounds picture.role picture.seq picture.coding (state_next es packets earlier unit picture possible next)) (behinds (nearest earlier) possible)),
+)
+  where
+    befores : (before : Option TimedPicture) → IfSome before IsPossible → IfSome before (λ picture. IfSome picture.reference_before IsShown)
+    befores None possible = tt
+    befores (Some b) possible = possible.shown_before
+
+    behinds : (before : Option TimedPicture) → IfSome before IsPossible → IfSome before (λ picture. IfSome picture.reference_behind IsShown)
+    behinds None possible = tt
+    behinds (Some b) possible = possible.shown_behind
 
 -- how many stated times there are behind one more
 abbrev pub IsStep : ℕ → ℕ → Option ℕ → Type 0
@@ -223,11 +295,11 @@ timed_near None (Some v) stated ticks count next units range near step timed =
 timed_near (Some b) (Some v) stated ticks count next units range near step timed =
     let placed : IsNear next stated = near_more stated (count + 1) next (omega (arith, step)) (near_step b.stated stated v count near.stated timed.0) in
     (placed, far_stated stated ticks next (units + 1) placed timed.1)
-timed_near (Some b) None stated ticks count next units range near step timed =
-    let period : frame_period b.seq.rate_code ≤ 1126125 = period_most b.seq.rate_code near.state.rate_code.0 near.state.rate_code.1 in (
-      subst (IsNear next) (sym timed.1) (near_more b.stated count next step near.stated),
-      far_more ticks count next (units + 1) step (far_untold b.ticks ticks (ticks_behind b) count units (near.least, near.most) (share_most b.role (frame_period b.seq.rate_code) period) timed.2),
-    )
+timed_near (Some b) None stated ticks count next units range near step timed = (
+  subst (IsNear next) (sym timed.0) (near_more b.stated count next step near.stated),
+  far_more ticks count next (units + 1) step
+      (far_untold b.ticks ticks (ticks_behind b) count units (near.least, near.most) (interval_most b near.state near.shown_before) timed.1),
+)
 
 -- the first picture's time
 pub first_near : (value : Option ℕ) (stated ticks : ℤ) → IsInRange value → IsTimed None value stated ticks → IsNear 0 stated
@@ -247,6 +319,19 @@ pub record KeptSoFar (es : List ℕ) (packets : List PlacedPacket) (cuts : List 
   pub count : ℕ
   pub counted : count + length left ≤ 2855696
   pub near : IfSome kept.last (IsPictureNear count i)
+
+-- the pictures of these units, the nearest first
+abbrev pub earlier_kept : (es : List ℕ) (packets : List PlacedPacket) (cuts : List (ℕ × ℕ)) (i : ℕ) (left : List StampedPicture) (kept : KeptUnits) → KeptSoFar es packets cuts i left kept →
+    List TimedPicture
+earlier_kept es packets cuts i left kept so_far = all_earlier [] so_far.pictures
+
+pub earlier_last : (es : List ℕ) (packets : List PlacedPacket) (cuts : List (ℕ × ℕ)) (i : ℕ) (left : List StampedPicture) (kept : KeptUnits) (so_far : KeptSoFar es packets cuts i left kept) →
+    nearest (all_earlier [] so_far.pictures) ≡ kept.last
+earlier_last es packets cuts i left kept so_far = nearest_last [] so_far.pictures ∙ sym so_far.keep.last_is
+
+pub earlier_tells : (es : List ℕ) (packets : List PlacedPacket) (cuts : List (ℕ × ℕ)) (i : ℕ) (left : List StampedPicture) (kept : KeptUnits) (so_far : KeptSoFar es packets cuts i left kept) →
+    LastTells (all_earlier [] so_far.pictures)
+earlier_tells es packets cuts i left kept so_far = last_tells es packets [] (take i cuts) so_far.pictures so_far.keep.in_order tt
 
 -- ---- the units before the first one
 
@@ -325,7 +410,8 @@ step_of left behind times count few (inr none) =
 
 pub kept_more : (es : List ℕ) (packets : List PlacedPacket) (cuts : List (ℕ × ℕ)) (i : ℕ) (unit : ℕ × ℕ) (left behind : List StampedPicture) (old new : KeptUnits) (times : Times)
     (picture : TimedPicture) → i < length cuts → length cuts ≤ 1073741824 → unit ≡ get_or cuts i (0, 0) → All (λ packet. IsInRange (decoding_time packet.header.times)) packets →
-    KeptSoFar es packets cuts i left old → TellTimes es packets unit.1 behind → IsCounted left behind times → times ≡ times_of_unit es packets unit → IsNext es packets old.last unit picture →
+    (so_far : KeptSoFar es packets cuts i left old) → TellTimes es packets unit.1 behind → IsCounted left behind times → times ≡ times_of_unit es packets unit →
+    IsNext es packets (earlier_kept es packets cuts i left old so_far) unit picture →
     new.units.items ≡ old.units.items ++ row_of unit picture ∷ [] → new.first ≡ Some (unwrap_or old.first picture) → new.last ≡ Some picture → new.dropped ≡ old.dropped →
     KeptSoFar es packets cuts (i + 1) behind new
 kept_more es packets cuts i unit left behind old new times picture lt few is ranges so_far tells counted times_are next items first last dropped =
@@ -334,23 +420,29 @@ kept_more es packets cuts i unit left behind old new times picture lt few is ran
     let step = step_of left behind times so_far.count so_far.counted counted in
     let stated : IsStep so_far.count step.0 (decoding_time picture.times) = subst (λ (t : Times). IsStep so_far.count step.0 (decoding_time t)) (times_are ∙ sym next.times_are) step.1 in
     let range : IsInRange (decoding_time picture.times) = subst (λ (t : Times). IsInRange (decoding_time t)) (sym next.times_are) (range_of_unit es packets unit ranges) in
-    let timed = timed_near old.last (decoding_time picture.times) picture.stated picture.ticks so_far.count step.0 i range so_far.near stated next.timed in
-    let possible = possible_before es packets cuts i left old lt few so_far in
+    let earlier = earlier_kept es packets cuts i left old so_far in
+    let last_same = earlier_last es packets cuts i left old so_far in
+    let own_timed : IsTimed old.last (decoding_time picture.times) picture.stated picture.ticks =
+    subst (λ (b : Option TimedPicture). IsTimed b (decoding_time picture.times) picture.stated picture.ticks) last_same next.timed in
+    let timed = timed_near old.last (decoding_time picture.times) picture.stated picture.ticks so_far.count step.0 i range so_far.near stated own_timed in
+    let possible : IfSome (nearest earlier) IsPossible =
+    subst (λ (b : Option TimedPicture). IfSome b IsPossible) (sym last_same) (possible_before es packets cuts i left old lt few so_far) in
+    let shown = shown_next es packets earlier unit picture possible (earlier_tells es packets cuts i left old so_far) next in
     let next_few : step.0 ≤ 2855696 = omega (arith, step.2) in
     let tick : IsTickUnit (row_of unit picture) = (let far = far_tick picture.ticks step.0 (i + 1) next_few (omega (arith, lt, few)) timed.1 in record { least = far.0; most = far.1 }) in
     let more : take (i + 1) cuts ≡ take i cuts ++ unit ∷ [] = take_more cuts i (0, 0) lt ∙ ap (λ (u : ℕ × ℕ). take i cuts ++ u ∷ []) (sym is) in
-    let in_order : AreInOrder es packets None (take i cuts ++ unit ∷ []) (so_far.pictures ++ picture ∷ []) =
-    order_push es packets None (take i cuts) so_far.pictures unit picture keep.in_order (subst (λ (b : Option TimedPicture). IsNext es packets b unit picture) keep.last_is next) in
+    let in_order : AreInOrder es packets [] (take i cuts ++ unit ∷ []) (so_far.pictures ++ picture ∷ []) =
+    order_push es packets [] (take i cuts) so_far.pictures unit picture keep.in_order next in
     let rows : AreRows (take i cuts ++ unit ∷ []) (so_far.pictures ++ picture ∷ []) (old.units.items ++ row_of unit picture ∷ []) =
     rows_push (take i cuts) so_far.pictures old.units.items unit picture (row_of unit picture) keep.rows refl in record {
       pictures = so_far.pictures ++ picture ∷ [];
       keep = record {
-        in_order = subst (λ (us : List (ℕ × ℕ)). AreInOrder es packets None us (so_far.pictures ++ picture ∷ [])) (sym more) in_order;
+        in_order = subst (λ (us : List (ℕ × ℕ)). AreInOrder es packets [] us (so_far.pictures ++ picture ∷ [])) (sym more) in_order;
         rows = subst (λ (rs : List KeptUnit). AreRows (take (i + 1) cuts) (so_far.pictures ++ picture ∷ []) rs) (sym items)
             (subst (λ (us : List (ℕ × ℕ)). AreRows us (so_far.pictures ++ picture ∷ []) (old.units.items ++ row_of unit picture ∷ [])) (sym more) rows);
         first_is = first ∙ ap (λ (f : Option TimedPicture). Some (unwrap_or f picture)) keep.first_is ∙ sym (first_push so_far.pictures picture);
         first_near = subst (λ (f : Option TimedPicture). IfSome f (λ picture. IsNear 0 picture.stated)) (sym first)
-            (first_step old.first old.last picture so_far.pictures keep.first_is keep.last_is keep.first_near range next.timed);
+            (first_step old.first old.last picture so_far.pictures keep.first_is keep.last_is keep.first_near range own_timed);
         last_is = last ∙ sym (last_push so_far.pictures picture);
         ticks = subst (All IsTickUnit) (sym items) (All-push IsTickUnit old.units.items (row_of unit picture) keep.ticks tick);
       };
@@ -361,7 +453,14 @@ kept_more es packets cuts i unit left behind old new times picture lt few is ran
       count = step.0;
       counted = step.2;
       near = subst (λ (f : Option TimedPicture). IfSome f (IsPictureNear step.0 (i + 1))) (sym last)
-          (record { state = state_next es packets old.last unit picture possible next; stated = timed.0; least = timed.1.0; most = timed.1.1 });
+          (record {
+            state = state_next es packets earlier unit picture possible next;
+            stated = timed.0;
+            least = timed.1.0;
+            most = timed.1.1;
+            shown_before = shown.0;
+            shown_behind = shown.1;
+          });
     }
   where
     first_step : (f l : Option TimedPicture) (picture : TimedPicture) (pictures : List TimedPicture) → f ≡ first_of pictures → l ≡ last_of pictures →
@@ -494,10 +593,9 @@ told slice es packets unit left behind times same tells order are leave =
       subst (λ (xs : List ℕ). TellTimes xs packets unit.1 behind) same (leave packets order tells_slice),
     )
 
-pub next_same : (slice es : List ℕ) (packets : List PlacedPacket) (before last : Option TimedPicture) (unit : ℕ × ℕ) (picture : TimedPicture) → slice ≡ es → before ≡ last →
-    IsNext slice packets before unit picture → IsNext es packets last unit picture
-next_same slice es packets before last unit picture same is next =
-    subst (λ (b : Option TimedPicture). IsNext es packets b unit picture) is (subst (λ (xs : List ℕ). IsNext xs packets before unit picture) same next)
+pub next_same : (slice es : List ℕ) (packets : List PlacedPacket) (earlier : List TimedPicture) (unit : ℕ × ℕ) (picture : TimedPicture) → slice ≡ es →
+    IsNext slice packets earlier unit picture → IsNext es packets earlier unit picture
+next_same slice es packets earlier unit picture same next = subst (λ (xs : List ℕ). IsNext xs packets earlier unit picture) same next
 
 pub broken_same : (slice es : List ℕ) (before last : Option TimedPicture) (unit : ℕ × ℕ) (refusal : Refusal) (at : ℕ) → slice ≡ es → before ≡ last → IsBroken slice before unit refusal at →
     IsBroken es last unit refusal at
@@ -513,10 +611,10 @@ refused_same slice es packets before last unit is_last fault same is (inr refuse
 pub within_same : (slice es : List ℕ) (end : ℕ) → slice ≡ es → end ≤ length es → end ≤ length slice
 within_same slice es end same le = subst (λ (xs : List ℕ). end ≤ length xs) (sym same) le
 
-pub found_none : (es : List ℕ) (packets : List PlacedPacket) (before : Option TimedPicture) (unit : TimedUnit) (found : Option TimedPicture) → found ≡ None →
-    IsFound es packets before unit found → (unit.is_last ≡ true) × (refusal : Refusal) × (at : ℕ) × IsBroken es before (unit.begin, unit.end) refusal at
-found_none es packets before unit found none is = subst (λ (f : Option TimedPicture). IsFound es packets before unit f) none is
+pub found_none : (es : List ℕ) (packets : List PlacedPacket) (earlier : List TimedPicture) (before : Option TimedPicture) (unit : TimedUnit) (found : Option TimedPicture) → found ≡ None →
+    IsFound es packets earlier before unit found → (unit.is_last ≡ true) × (refusal : Refusal) × (at : ℕ) × IsBroken es before (unit.begin, unit.end) refusal at
+found_none es packets earlier before unit found none is = subst (λ (f : Option TimedPicture). IsFound es packets earlier before unit f) none is
 
-pub found_some : (es : List ℕ) (packets : List PlacedPacket) (before : Option TimedPicture) (unit : TimedUnit) (found : Option TimedPicture) (picture : TimedPicture) →
-    found ≡ Some picture → IsFound es packets before unit found → IsNext es packets before (unit.begin, unit.end) picture
-found_some es packets before unit found picture some is = subst (λ (f : Option TimedPicture). IsFound es packets before unit f) some is
+pub found_some : (es : List ℕ) (packets : List PlacedPacket) (earlier : List TimedPicture) (before : Option TimedPicture) (unit : TimedUnit) (found : Option TimedPicture)
+    (picture : TimedPicture) → found ≡ Some picture → IsFound es packets earlier before unit found → IsNext es packets earlier (unit.begin, unit.end) picture
+found_some es packets earlier before unit found picture some is = subst (λ (f : Option TimedPicture). IsFound es packets earlier before unit f) some is

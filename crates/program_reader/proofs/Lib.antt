@@ -2,6 +2,7 @@ pub mod CutLemmas
 pub mod DueLemmas
 pub mod FrameLemmas
 pub mod FrameTimes
+pub mod IntervalExamples
 pub mod KeepLemmas
 pub mod OneAudio
 pub mod OnePicture
@@ -10,6 +11,7 @@ pub mod OneUnits
 pub mod PieceLemmas
 pub mod PlaceLemmas
 pub mod ProgramLemmas
+pub mod ReferenceLemmas
 pub mod StartLemmas
 pub mod StreamLemmas
 pub mod StreamsLemmas

@@ -312,11 +312,11 @@ first_none : (pictures : List TimedPicture) → first_of pictures ≡ None → p
 first_none [] is = refl
 first_none (p ∷ ps) is = absurd cc
 
-none_kept : (es : List ℕ) (packets : List PlacedPacket) (before : Option TimedPicture) (units : List (ℕ × ℕ)) (pictures : List TimedPicture) → AreInOrder es packets before units pictures →
+none_kept : (es : List ℕ) (packets : List PlacedPacket) (earlier : List TimedPicture) (units : List (ℕ × ℕ)) (pictures : List TimedPicture) → AreInOrder es packets earlier units pictures →
     pictures ≡ [] → units ≡ []
-none_kept es packets before [] pictures are none = refl
-none_kept es packets before (u ∷ us) [] are none = absurd are
-none_kept es packets before (u ∷ us) (p ∷ ps) are none = absurd cc
+none_kept es packets earlier [] pictures are none = refl
+none_kept es packets earlier (u ∷ us) [] are none = absurd are
+none_kept es packets earlier (u ∷ us) (p ∷ ps) are none = absurd cc
 
 kept_here : (demuxed : Demuxed) (held : TakenPackets) (cuts kept : List (ℕ × ℕ)) (pictures : List TimedPicture) (dropped : ℕ) → AreTaken true demuxed.video held →
     AreKept held.payload.items held.packets.items cuts kept pictures dropped → AreKept (video_bytes demuxed) (video_packets demuxed) cuts kept pictures dropped
@@ -361,7 +361,7 @@ pub video_empty : (demuxed : Demuxed) (held : TakenPackets) (units : Units) (kep
     AreUnitsKept held.payload.items held.packets.items units.cuts kept → kept.first ≡ None → IsDemuxedRefused demuxed (Refused kinds.NoSequence 0)
 video_empty demuxed held units kept are units_are is none =
     let no_pictures : is.pictures ≡ [] = first_none is.pictures (sym is.keep.first_is ∙ none) in
-    let no_units : is.units ≡ [] = none_kept held.payload.items held.packets.items None is.units is.pictures is.keep.in_order no_pictures in
+    let no_units : is.units ≡ [] = none_kept held.payload.items held.packets.items [] is.units is.pictures is.keep.in_order no_pictures in
     IsDemuxedRefused.no_sequence
     (nothing_kept demuxed units is.units is.pictures kept.dropped (units_here demuxed held units are units_are) no_units no_pictures
     (kept_here demuxed held units.cuts is.units is.pictures kept.dropped are is.kept_are)) refl

@@ -52,6 +52,7 @@ use Rattle.program_reader.specs.declared.unit_picture.TimedUnit.{TimedUnit}
 use Rattle.program_reader.specs.declared.unit_sizes.UnitSizes.{UnitSizes}
 use Rattle.program_reader.specs.declared.video_stream.ReadVideo.{ReadVideo}
 use Rattle.program_reader.specs.Sizes.{AreProgramSizes, AreUnitSizes, stands_at}
+use Rattle.program_reader.specs.Intervals.{nearest}
 use Rattle.program_reader.specs.Units.{IsNext, state_behind, unit_bytes}
 use Rattle.program_reader.specs.Private.Dues.{AreDueUnits}
 use Rattle.program_reader.specs.Private.KeptUnits.{row_of}
@@ -114,20 +115,23 @@ one_more es coarser before behind units unit sizes own are state so_far = record
       (subst (λ (ss : List UnitSizes). AreUnitSizes es coarser None (units ++ unit ∷ left) ss) (sym (push_then sizes own more)) those);
 }
 
-pub sized_more : (slice es : List ℕ) (packets : List PlacedPacket) (coarser : List ℕ) (wanted : Bool) (before : Option TimedPicture) (unit : ℕ × ℕ) (picture : TimedPicture) (old new : KeptUnits)
-    (sizes more : List UnitSizes) → slice ≡ es → before ≡ old.last → unit.0 ≤ unit.1 → unit.1 ≤ length es → IsNext es packets old.last unit picture →
+pub sized_more : (slice es : List ℕ) (packets : List PlacedPacket) (coarser : List ℕ) (wanted : Bool) (earlier : List TimedPicture) (before : Option TimedPicture) (unit : ℕ × ℕ)
+    (picture : TimedPicture) (old new : KeptUnits) (sizes more : List UnitSizes) → slice ≡ es → before ≡ old.last → nearest earlier ≡ old.last → unit.0 ≤ unit.1 → unit.1 ≤ length es →
+    IsNext es packets earlier unit picture →
     IsSizedBehind (state_behind before) (unit_bytes slice unit) coarser wanted sizes more → new.units.items ≡ old.units.items ++ row_of unit picture ∷ [] → new.last ≡ Some picture →
     (wanted ≡ true → AreSizedSoFar es coarser (state_behind old.last) (map kept_at old.units.items) sizes) → wanted ≡ true →
     AreSizedSoFar es coarser (state_behind new.last) (map kept_at new.units.items) more
-sized_more slice es packets coarser wanted before unit picture old new sizes more same is order within next sized items last so_far want =
+sized_more slice es packets coarser wanted earlier before unit picture old new sizes more same is last_same order within next sized items last so_far want =
     let here : IsSizedBehind (state_behind old.last) (unit_bytes es unit) coarser wanted sizes more =
     subst (λ (b : Option TimedPicture). IsSizedBehind (state_behind b) (unit_bytes es unit) coarser wanted sizes more) is
     (subst (λ (xs : List ℕ). IsSizedBehind (state_behind before) (unit_bytes xs unit) coarser wanted sizes more) same sized) in
     let short : length (unit_bytes es unit) ≤ UNIT_BYTES_MOST = omega (arith, unit_length es unit order within, next.short) in
     let (own, are, more_is) = here want short in
+    let whole : IsPictureOf (state_behind old.last) (unit_bytes es unit) next.coded.picture =
+    subst (λ (b : Option TimedPicture). IsPictureOf (state_behind b) (unit_bytes es unit) next.coded.picture) last_same next.coded.whole in
     let left : state_behind (Some picture) ≡ Some are.are.picture.seq =
     ap (λ (s : SeqState). Some s)
-    (sym next.coded.seq_is ∙ sym (state_sized (state_behind old.last) (unit_bytes es unit) coarser own.versions.items are next.coded.picture next.coded.whole)) in
+    (sym next.coded.seq_is ∙ sym (state_sized (state_behind old.last) (unit_bytes es unit) coarser own.versions.items are next.coded.picture whole)) in
     let behind : state_behind new.last ≡ Some are.are.picture.seq = ap state_behind last ∙ left in
     let places : map kept_at new.units.items ≡ map kept_at old.units.items ++ unit ∷ [] =
     ap (map kept_at) items ∙ map-append kept_at old.units.items (row_of unit picture ∷ []) in

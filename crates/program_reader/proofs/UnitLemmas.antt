@@ -32,12 +32,12 @@ coded_of es before state unit headers is found =
     record { picture = spelled.picture; whole = spelled.whole; seq_is = spelled.headed.seq; coding_is = spelled.headed.coding }
 
 -- what a unit that is refused is answered by
-pub broken_is : (es : List ℕ) (packets : List PlacedPacket) (before : Option TimedPicture) (unit : TimedUnit) (told : Option PlacedRefusal) →
+pub broken_is : (es : List ℕ) (packets : List PlacedPacket) (earlier : List TimedPicture) (before : Option TimedPicture) (unit : TimedUnit) (told : Option PlacedRefusal) →
     IfSome told (λ said. RefusesPicture (state_behind before) (unit_bytes es (unit.begin, unit.end)) said.refusal said.at) →
-    MatchResult (broken_answer unit told) (IsFound es packets before unit) (IsNotFound es packets before unit)
-broken_is es packets before unit None refused = inl refl
-broken_is es packets before unit (Some said) refused = by_last unit.is_last refl
+    MatchResult (broken_answer unit told) (IsFound es packets earlier before unit) (IsNotFound es packets before unit)
+broken_is es packets earlier before unit None refused = inl refl
+broken_is es packets earlier before unit (Some said) refused = by_last unit.is_last refl
   where
-    by_last : (last : Bool) → unit.is_last ≡ last → MatchResult (broken_answer unit (Some said)) (IsFound es packets before unit) (IsNotFound es packets before unit)
+    by_last : (last : Bool) → unit.is_last ≡ last → MatchResult (broken_answer unit (Some said)) (IsFound es packets earlier before unit) (IsNotFound es packets before unit)
     by_last true is = rw is (refl, said.refusal, unit.begin + said.at / 8, record { place = said.at; refused = refused; at_is = refl })
     by_last false is = rw is (inr (IsUnitRefused.broken said.refusal (unit.begin + said.at / 8) refl (record { place = said.at; refused = refused; at_is = refl }) refl))

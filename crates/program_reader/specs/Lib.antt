@@ -1,6 +1,7 @@
 pub mod Faults
 pub mod Packets
 pub mod PictureTimes
+pub mod Intervals
 pub mod Units
 pub mod Audio
 pub mod Programs

@@ -1,6 +1,6 @@
 -- The coded pictures of a video stream with their times: which are kept, and what refuses them. (Field pairs by ISO/IEC 13818-2,
--- 6.1.1.4.1; the times of pictures that state none, and the order of refusals, are this project's.)
-use Rattle.std.specs.Prelude.{◌≡◌, ◌⊎◌, ℕ, ◌+◌, ◌-◌, ◌/◌, ◌<◌, ◌≤◌, Bool, true, false, List, [], ◌∷◌, ◌++◌, slice_index, slice_range, Option, Some, None, ℤ, pos, ◌+ℤ◌, ◌*ℤ◌, ◌<ℤ◌}
+-- 6.1.1.4.1, the times of pictures that state none by its annex C; the order of refusals is this project's.)
+use Rattle.std.specs.Prelude.{◌≡◌, ◌⊎◌, ℕ, ◌+◌, ◌-◌, ◌/◌, ◌<◌, ◌≤◌, Bool, true, false, List, [], ◌∷◌, ◌++◌, map, slice_range, Option, Some, None, ℤ, pos, ◌+ℤ◌, ◌*ℤ◌, ◌<ℤ◌}
 use Rattle.std.specs.List.{last_or}
 use Rattle.std.specs.Option.{option_map}
 use Rattle.stream_constants.specs.declared.clock.TheConstants.{TICKS_PER_TIME_UNIT}
@@ -22,6 +22,7 @@ use Rattle.program_reader.specs.declared.timed_picture.Role.{Role}
 use Rattle.program_reader.specs.declared.timed_picture.Role.TheVariants.{Frame, FirstField, SecondField}
 use Rattle.program_reader.specs.declared.timed_picture.TimedPicture.{TimedPicture}
 use Rattle.program_reader.specs.Faults.{source_kind_of}
+use Rattle.program_reader.specs.Intervals.{CodedPicture, before_frame, interval_behind, nearest, reference_shown}
 use Rattle.program_reader.specs.PictureTimes.{times_of_unit}
 
 -- ---- a unit
@@ -72,52 +73,51 @@ IsUnpaired (Some before) coding = (before.role ≡ FirstField) × ((is_frame cod
 
 -- ---- times
 
--- ticks of a frame period, by frame_rate_code 1 to 5 (Table 6-4): 24,000/1,001, 24, 25, 30,000/1,001 and 30 frames a second
-abbrev pub frame_period : ℕ → ℕ
-frame_period code = slice_index (1126125 ∷ 1125000 ∷ 1080000 ∷ 900900 ∷ 900000 ∷ []) (code - 1)
+-- a picture with the state in force, its coding and its role alone
+abbrev pub coded_as : TimedPicture → CodedPicture
+coded_as picture = record { seq = picture.seq; coding = picture.coding; role = picture.role }
 
--- of a frame period: all behind a frame, half of it, rounded down, behind a first field, and the rest behind a second field
-abbrev pub share_of : Role → ℕ → ℕ
-share_of Frame period = period
-share_of FirstField period = period / 2
-share_of SecondField period = period - period / 2
-
--- ticks up to the next picture where that states no time
+-- ticks up to the next picture where that states no time: its decoding interval
 abbrev pub ticks_behind : TimedPicture → ℕ
-ticks_behind picture = share_of picture.role (frame_period picture.seq.rate_code)
+ticks_behind picture = interval_behind (coded_as picture) picture.reference_before
 
 -- The time of a picture, in units of 1/90,000 s where it is stated and in ticks. It is the stated one, placed on the axis of
--- the last stated one before it; or so many ticks behind the picture before, where that repeats no field.
+-- the last stated one before it; or the decoding interval of the picture before behind that.
 abbrev pub IsTimed : Option TimedPicture → Option ℕ → ℤ → ℤ → Type 0
 IsTimed None None stated ticks = ⊥
 IsTimed None (Some value) stated ticks = (stated ≡ pos value) × (ticks ≡ pos TICKS_PER_TIME_UNIT *ℤ stated)
 IsTimed (Some before) (Some value) stated ticks = IsUnwrapped before.stated value stated × (ticks ≡ pos TICKS_PER_TIME_UNIT *ℤ stated)
-IsTimed (Some before) None stated ticks =
-    (before.coding.repeat_first_field ≡ false) × (stated ≡ before.stated) × (ticks ≡ before.ticks +ℤ pos (ticks_behind before))
+IsTimed (Some before) None stated ticks = (stated ≡ before.stated) × (ticks ≡ before.ticks +ℤ pos (ticks_behind before))
 
--- a picture without a stated time is the first one, or behind one that repeats a field
+-- the first picture has no stated time
 abbrev pub HasNoTime : Option TimedPicture → Option ℕ → Type 0
 HasNoTime before (Some value) = ⊥
 HasNoTime None None = Unit {0}
-HasNoTime (Some before) None = before.coding.repeat_first_field ≡ true
+HasNoTime (Some before) None = ⊥
 
 -- a time is later than that of the picture before
 abbrev pub IsLater : Option TimedPicture → ℤ → Type 0
 IsLater None ticks = Unit {0}
 IsLater (Some before) ticks = before.ticks <ℤ ticks
 
--- ---- one unit behind the one before
+-- ---- one unit behind those before
 
--- The unit is this picture behind the one before: it keeps the rules of headers and pictures, completes a first field that
+-- what a picture says of the last coded I or P frame: what it is shown for, of the frames before the picture's own, and of these and its own
+pub record TellsReference (earlier : List TimedPicture) (picture : TimedPicture) : Type 0 where
+  pub before : picture.reference_before ≡ reference_shown (before_frame picture.role (map coded_as earlier))
+  pub behind : picture.reference_behind ≡ reference_shown (map coded_as (picture ∷ earlier))
+
+-- The unit is this picture behind earlier ones, the nearest first: it keeps the rules of headers and pictures, completes a first field that
 -- stands before it, is no longer than a unit may be, and has a time, which is later than the one before.
-pub record IsNext (es : List ℕ) (packets : List PlacedPacket) (before : Option TimedPicture) (unit : ℕ × ℕ) (picture : TimedPicture) : Type 0 where
-  pub coded : IsCoded es before unit picture.seq picture.coding
-  pub paired : ¬ IsUnpaired before picture.coding
+pub record IsNext (es : List ℕ) (packets : List PlacedPacket) (earlier : List TimedPicture) (unit : ℕ × ℕ) (picture : TimedPicture) : Type 0 where
+  pub coded : IsCoded es (nearest earlier) unit picture.seq picture.coding
+  pub paired : ¬ IsUnpaired (nearest earlier) picture.coding
   pub short : unit_size unit ≤ UNIT_BYTES_MOST
-  pub role_is : picture.role ≡ role_of before picture.coding
+  pub role_is : picture.role ≡ role_of (nearest earlier) picture.coding
+  pub reference : TellsReference earlier picture
   pub times_are : picture.times ≡ times_of_unit es packets unit
-  pub timed : IsTimed before (decoding_time picture.times) picture.stated picture.ticks
-  pub later : IsLater before picture.ticks
+  pub timed : IsTimed (nearest earlier) (decoding_time picture.times) picture.stated picture.ticks
+  pub later : IsLater (nearest earlier) picture.ticks
 
 -- What refuses a unit behind the one before, each of these where none above it does: a rule of headers or pictures, which
 -- a last unit may break; a field pair; its length; no time; no later time.
@@ -137,12 +137,13 @@ pub data IsUnitRefused (es : List ℕ) (packets : List PlacedPacket) (before : O
 
 -- ---- all units
 
--- units are these pictures, each behind the one before
-abbrev pub AreInOrder : List ℕ → List PlacedPacket → Option TimedPicture → List (ℕ × ℕ) → List TimedPicture → Type 0
-AreInOrder es packets before [] [] = Unit {0}
-AreInOrder es packets before [] (_ ∷ _) = ⊥
-AreInOrder es packets before (_ ∷ _) [] = ⊥
-AreInOrder es packets before (unit ∷ units) (picture ∷ pictures) = IsNext es packets before unit picture × AreInOrder es packets (Some picture) units pictures
+-- units are these pictures, each behind those before it: earlier ones, the nearest first, and those of the units before it
+abbrev pub AreInOrder : List ℕ → List PlacedPacket → (earlier : List TimedPicture) → List (ℕ × ℕ) → List TimedPicture → Type 0
+AreInOrder es packets earlier [] [] = Unit {0}
+AreInOrder es packets earlier [] (_ ∷ _) = ⊥
+AreInOrder es packets earlier (_ ∷ _) [] = ⊥
+AreInOrder es packets earlier (unit ∷ units) (picture ∷ pictures) =
+    IsNext es packets earlier unit picture × AreInOrder es packets (picture ∷ earlier) units pictures
 
 -- the last of some pictures, if there are any
 abbrev pub last_of : List TimedPicture → Option TimedPicture
@@ -160,12 +161,12 @@ pub record IsUnitsFault (es : List ℕ) (packets : List PlacedPacket) (units : L
   pub more : List (ℕ × ℕ)
   pub split : units ≡ before ++ unit ∷ more
   pub pictures : List TimedPicture
-  pub in_order : AreInOrder es packets None before pictures
+  pub in_order : AreInOrder es packets [] before pictures
   pub refused : IsUnitRefused es packets (last_of pictures) unit (is_none_left more) fault
 
 -- The units that are kept, as pictures in order, and how many are dropped at the end: all, or all but a last one that breaks a rule of headers or
 -- pictures.
 pub data AreKept (es : List ℕ) (packets : List PlacedPacket) (units kept : List (ℕ × ℕ)) (pictures : List TimedPicture) (dropped : ℕ) : Type 0 where
-  all : units ≡ kept → AreInOrder es packets None kept pictures → dropped ≡ 0 → AreKept es packets units kept pictures dropped
-  but_last : (last : ℕ × ℕ) (refusal : Refusal) (at : ℕ) → units ≡ kept ++ last ∷ [] → AreInOrder es packets None kept pictures
+  all : units ≡ kept → AreInOrder es packets [] kept pictures → dropped ≡ 0 → AreKept es packets units kept pictures dropped
+  but_last : (last : ℕ × ℕ) (refusal : Refusal) (at : ℕ) → units ≡ kept ++ last ∷ [] → AreInOrder es packets [] kept pictures
       → IsBroken es (last_of pictures) last refusal at → dropped ≡ 1 → AreKept es packets units kept pictures dropped

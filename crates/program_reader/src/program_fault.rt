@@ -77,7 +77,7 @@ pub enum SourceKind {
     Uncovered,
     /// Behind a first field stands no second field.
     FieldPair,
-    /// A unit without a time, where none can be told.
+    /// The first unit without a time.
     NoTime,
     /// A unit or an audio frame isn't later than the one before it.
     TimeOrder,

@@ -5,14 +5,15 @@ ghost use Rattle.pes_units.specs.Times.{decoding_time};
 ghost use Rattle.picture_grammar.specs.Macroblock.{is_frame};
 ghost use Rattle.program_reader.specs.declared.pes_packets.PlacedPacket.{PlacedPacket};
 ghost use Rattle.program_reader.specs.PictureTimes.{times_of_unit};
-ghost use Rattle.program_reader.specs.Units.{frame_period, ticks_behind, role_behind, role_of, IsUnpaired, IsTimed, HasNoTime, IsLater, IsCoded, IsNext, IsUnitRefused};
-ghost use Rattle.program_reader.specs.Private.TimedPictures.{IsPossible};
+ghost use Rattle.program_reader.specs.Intervals.{begins_reference, frame_period, frame_shown, is_b, nearest, shown_as, shown_meanwhile};
+ghost use Rattle.program_reader.specs.Units.{ticks_behind, role_behind, role_of, IsUnpaired, IsTimed, HasNoTime, IsLater, IsCoded, IsNext, IsUnitRefused};
+ghost use Rattle.program_reader.specs.Private.TimedPictures.{IsPossible, IsShown, LastTells, reference_before, reference_behind};
 
 use crate::limits::UNIT_BYTES_MOST;
 use crate::program_fault::{ProgramFault, SourceKind};
 use pes_units::{Times, unwrap_time};
 use stream_constants::clock::TICKS_PER_TIME_UNIT;
-use syntax_types::{FRAME_PICTURE, PicCoding, SeqState};
+use syntax_types::{B_PICTURE, FRAME_PICTURE, PicCoding, SeqState};
 
 /// What a coded picture is among those before it (ISO/IEC 13818-2, 6.1.1.4.1).
 #[derive(Clone, Copy, Debug, PartialEq, Eq)]
@@ -33,6 +34,10 @@ pub struct TimedPicture {
     /// How it is coded.
     pub coding: PicCoding,
     pub role: Role,
+    /// What the last coded I or P frame before its own frame is shown for, in ticks, where there is one.
+    pub reference_before: Option<u32>,
+    /// What the last coded I or P frame up to its own one is shown for, in ticks, where there is one.
+    pub reference_behind: Option<u32>,
     /// The times of its PES header, where it has any.
     pub times: Times,
     /// The last decoding time that was stated up to it, on the program's axis, in units of 1/90,000 s.
@@ -66,8 +71,9 @@ pub fn timed_picture(
     requires order { begin ≤ end }
     requires times { IfSome (decoding_time times) (λ time. time < 2 ^ 33) }
     requires before { IfSome (option_copied before) IsPossible }
-    ensures { (es : List ℕ) (packets : List PlacedPacket) → IsCoded es (option_copied before.entry) (begin, end) seq.now coding.now → times ≡ times_of_unit es packets (begin, end) →
-        MatchResult result (IsNext es packets (option_copied before.entry) (begin, end))
+    ensures { (es : List ℕ) (packets : List PlacedPacket) (earlier : List TimedPicture) → nearest earlier ≡ option_copied before.entry → LastTells earlier →
+        IsCoded es (option_copied before.entry) (begin, end) seq.now coding.now → times ≡ times_of_unit es packets (begin, end) →
+        MatchResult result (IsNext es packets earlier (begin, end))
         (λ fault. (last : Bool) → IsUnitRefused es packets (option_copied before.entry) (begin, end) last fault) }
 {
     if is_unpaired(before, coding) {
@@ -94,10 +100,13 @@ pub fn timed_picture(
             at: begin,
         });
     }
+    let role = role_of(before, coding);
     Ok(TimedPicture {
         seq: *seq,
         coding: *coding,
-        role: role_of(before, coding),
+        role,
+        reference_before: reference_before(before, role),
+        reference_behind: reference_behind(before, role, seq, coding),
         times,
         stated: time.stated,
         ticks: time.ticks,
@@ -181,7 +190,7 @@ fn time_behind(before: &TimedPicture, decoding: Option<u64>) -> Option<PictureTi
     ensures { MatchOption result (HasNoTime (Some before.now) decoding) (λ time. IsTimed (Some before.now) decoding time.stated time.ticks) }
 {
     let Some(value) = decoding else {
-        return time_untold(before);
+        return Some(time_untold(before));
     };
     let stated = unwrap_time(before.stated, value);
     Some(PictureTime {
@@ -190,31 +199,126 @@ fn time_behind(before: &TimedPicture, decoding: Option<u64>) -> Option<PictureTi
     })
 }
 
-/// The time of a picture that states none, behind one that repeats no field.
-fn time_untold(before: &TimedPicture) -> Option<PictureTime>
+/// The time of a picture that states none.
+fn time_untold(before: &TimedPicture) -> PictureTime
     requires { IsPossible before.now }
-    ensures { MatchOption result (HasNoTime (Some before.now) None) (λ time. IsTimed (Some before.now) None time.stated time.ticks) }
+    ensures { IsTimed (Some before.now) None result.stated result.ticks }
 {
-    if before.coding.repeat_first_field {
-        return None;
-    }
-    Some(PictureTime {
+    PictureTime {
         stated: before.stated,
         ticks: before.ticks + i64::from(ticks_behind(before)),
-    })
+    }
 }
 
-/// Ticks up to the next picture where that states no time.
-fn ticks_behind(before: &TimedPicture) -> u32
-    requires { (1 ≤ before.now.seq.rate_code) × (before.now.seq.rate_code ≤ 5) }
-    ensures value { result ≡ ticks_behind before.now }
-    ensures most { result ≤ 1126125 }
+/// What the last coded I or P frame before a picture's own frame is shown for, in ticks, behind the picture before.
+fn reference_before(before: Option<&TimedPicture>, role: Role) -> Option<u32>
+    ensures { result ≡ reference_before role (option_copied before.entry) }
 {
-    let period = frame_period(before.seq.rate_code);
+    match (before, role) {
+        (Some(before), Role::SecondField) => before.reference_before,
+        (Some(before), _) => before.reference_behind,
+        (None, _) => None,
+    }
+}
+
+/// What the last coded I or P frame up to a picture's own one is shown for, in ticks, behind the picture before.
+fn reference_behind(
+    before: Option<&TimedPicture>,
+    role: Role,
+    seq: &SeqState,
+    coding: &PicCoding,
+) -> Option<u32>
+    requires { (1 ≤ seq.now.rate_code) × (seq.now.rate_code ≤ 5) }
+    ensures { result ≡ reference_behind role seq.now coding.now (option_copied before.entry) }
+{
+    if begins_reference(role, coding) {
+        return Some(shown_as(role, seq, coding));
+    }
+    match before {
+        Some(before) => before.reference_behind,
+        None => None,
+    }
+}
+
+/// True where a coded I or P frame begins.
+fn begins_reference(role: Role, coding: &PicCoding) -> bool
+    ensures { result ≡ begins_reference role coding.now }
+{
+    match role {
+        Role::Frame => !is_b(coding),
+        Role::FirstField => !is_b(coding),
+        Role::SecondField => false,
+    }
+}
+
+/// True for a B-picture.
+fn is_b(coding: &PicCoding) -> bool
+    ensures { result ≡ is_b coding.now }
+{
+    coding.kind == B_PICTURE
+}
+
+/// Ticks that a coded frame is shown for, by its only or first picture (13818-2, 6.3.10).
+fn shown_as(role: Role, seq: &SeqState, coding: &PicCoding) -> u32
+    requires { (1 ≤ seq.now.rate_code) × (seq.now.rate_code ≤ 5) }
+    ensures value { result ≡ shown_as role seq.now coding.now }
+    ensures shown { IsShown result }
+{
+    match role {
+        Role::Frame => frame_shown(seq, coding),
+        Role::FirstField => frame_period(seq.rate_code),
+        Role::SecondField => frame_period(seq.rate_code),
+    }
+}
+
+/// Ticks that a frame picture is shown for.
+fn frame_shown(seq: &SeqState, coding: &PicCoding) -> u32
+    requires { (1 ≤ seq.now.rate_code) × (seq.now.rate_code ≤ 5) }
+    ensures value { result ≡ frame_shown coding.now.repeat_first_field seq.now.progressive coding.now.top_field_first seq.now.rate_code }
+    ensures shown { IsShown result }
+{
+    let period = frame_period(seq.rate_code);
+    if !coding.repeat_first_field {
+        return period;
+    }
+    if !seq.progressive {
+        return period + period / 2;
+    }
+    if coding.top_field_first {
+        3 * period
+    } else {
+        2 * period
+    }
+}
+
+/// Ticks up to the next picture where that states no time (13818-2, annex C).
+fn ticks_behind(before: &TimedPicture) -> u32
+    requires rate { (1 ≤ before.now.seq.rate_code) × (before.now.seq.rate_code ≤ 5) }
+    requires reference { IfSome before.now.reference_before IsShown }
+    ensures value { result ≡ ticks_behind before.now }
+    ensures most { result ≤ 3378375 }
+{
+    let shown = shown_meanwhile(before);
     match before.role {
-        Role::Frame => period,
-        Role::FirstField => period / 2,
-        Role::SecondField => period - period / 2,
+        Role::Frame => shown,
+        Role::FirstField => frame_period(before.seq.rate_code) / 2,
+        Role::SecondField => shown - frame_period(before.seq.rate_code) / 2,
+    }
+}
+
+/// Ticks of what is shown while the frame of a picture is decoded.
+fn shown_meanwhile(picture: &TimedPicture) -> u32
+    requires rate { (1 ≤ picture.now.seq.rate_code) × (picture.now.seq.rate_code ≤ 5) }
+    requires reference { IfSome picture.now.reference_before IsShown }
+    ensures value { result ≡ shown_meanwhile (is_b picture.now.coding) (shown_as picture.now.role picture.now.seq picture.now.coding) picture.now.reference_before picture.now.seq.rate_code }
+    ensures shown { IsShown result }
+{
+    if is_b(&picture.coding) {
+        return shown_as(picture.role, &picture.seq, &picture.coding);
+    }
+    match picture.reference_before {
+        Some(shown) => shown,
+        None => frame_period(picture.seq.rate_code),
     }
 }
 
@@ -222,6 +326,7 @@ fn ticks_behind(before: &TimedPicture) -> u32
 fn frame_period(rate_code: u8) -> u32
     requires { (1 ≤ rate_code) × (rate_code ≤ 5) }
     ensures value { result ≡ frame_period rate_code }
+    ensures least { 900000 ≤ result }
     ensures most { result ≤ 1126125 }
 {
     FRAME_PERIODS[rate_code as usize - 1]

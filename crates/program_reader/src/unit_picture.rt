@@ -5,9 +5,10 @@ ghost use Rattle.pes_units.specs.Times.{decoding_time};
 ghost use Rattle.program_reader.specs.declared.pes_packets.PlacedPacket.{PlacedPacket};
 ghost use Rattle.picture_reader.specs.PictureFault.{refusal_told};
 ghost use Rattle.program_reader.specs.PictureTimes.{times_of_unit};
+ghost use Rattle.program_reader.specs.Intervals.{nearest};
 ghost use Rattle.program_reader.specs.Units.{state_behind, unit_bytes};
 ghost use Rattle.program_reader.specs.Private.SizedUnits.{IsSizedFound};
-ghost use Rattle.program_reader.specs.Private.TimedPictures.{IsPossible, IsFound, IsNotFound, broken_answer};
+ghost use Rattle.program_reader.specs.Private.TimedPictures.{IsPossible, IsFound, IsNotFound, LastTells, broken_answer};
 
 use crate::program_fault::{ProgramFault, SourceKind};
 use crate::timed_picture::{TimedPicture, timed_picture};
@@ -46,8 +47,9 @@ pub fn unit_picture(
     requires times { IfSome (decoding_time unit.now.times) (λ time. time < 2 ^ 33) }
     requires before { IfSome (option_copied before) IsPossible }
     requires coarser { length wanted.now.coarser.now < VERSIONS_MOST }
-    ensures found { (packets : List PlacedPacket) → unit.now.times ≡ times_of_unit es.now packets (unit.now.begin, unit.now.end) →
-        MatchResult result (IsFound es.now packets (option_copied before.entry) unit.now) (IsNotFound es.now packets (option_copied before.entry) unit.now) }
+    ensures found { (packets : List PlacedPacket) (earlier : List TimedPicture) → nearest earlier ≡ option_copied before.entry → LastTells earlier →
+        unit.now.times ≡ times_of_unit es.now packets (unit.now.begin, unit.now.end) →
+        MatchResult result (IsFound es.now packets earlier (option_copied before.entry) unit.now) (IsNotFound es.now packets (option_copied before.entry) unit.now) }
     ensures sizes { IfOk result (IsSizedFound (state_behind (option_copied before.entry)) (unit_bytes es.now (unit.now.begin, unit.now.end)) wanted.now.coarser.now
         wanted.now.are_wanted sizes.old.items sizes.new.items) }
 {

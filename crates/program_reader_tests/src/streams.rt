@@ -15,6 +15,11 @@ pub const SEQUENCE_OF_RATE_1: &[u8] = &[
     0, 0, 1, 0xB3, 0x01, 0x00, 0x10, 0x11, 0x24, 0x9F, 0x23, 0x80,
 ];
 
+/// The same of 30,000/1,001 pictures a second.
+pub const SEQUENCE_OF_RATE_4: &[u8] = &[
+    0, 0, 1, 0xB3, 0x01, 0x00, 0x10, 0x14, 0x24, 0x9F, 0x23, 0x80,
+];
+
 /// The extension of a progressive sequence: 10 bytes.
 pub const PROGRESSIVE: &[u8] = &[0, 0, 1, 0xB5, 0x14, 0x8A, 0x00, 0x01, 0x00, 0x00];
 
@@ -34,6 +39,11 @@ pub const I_REPEATED: &[u8] = &[
     0, 0, 1, 0, 0x00, 0x0F, 0xFF, 0xF8, 0, 0, 1, 0xB5, 0x8F, 0xFF, 0xF3, 0x43, 0x80,
 ];
 
+/// The same with top_field_first and repeat_first_field.
+pub const I_THREE: &[u8] = &[
+    0, 0, 1, 0, 0x00, 0x0F, 0xFF, 0xF8, 0, 0, 1, 0xB5, 0x8F, 0xFF, 0xF3, 0xC3, 0x80,
+];
+
 /// The top field of an I-picture, and the bottom field.
 pub const I_TOP: &[u8] = &[
     0, 0, 1, 0, 0x00, 0x0F, 0xFF, 0xF8, 0, 0, 1, 0xB5, 0x8F, 0xFF, 0xF1, 0x00, 0x00,
@@ -48,6 +58,11 @@ const B_FRAME: &[u8] = &[
     0, 0, 1, 0, 0x00, 0x1F, 0xFF, 0xFB, 0xB8, 0, 0, 1, 0xB5, 0x81, 0x11, 0x13, 0x41, 0x80,
 ];
 
+/// The same with top_field_first and repeat_first_field.
+const B_THREE: &[u8] = &[
+    0, 0, 1, 0, 0x00, 0x1F, 0xFF, 0xFB, 0xB8, 0, 0, 1, 0xB5, 0x81, 0x11, 0x13, 0xC3, 0x80,
+];
+
 /// A slice of the first row with one macroblock that is predicted forward by a vector of 0: quantiser code 2 and no information;
 /// address, type, vector: 00010 0 1 0010 1 1.
 const FORWARD_SLICE: &[u8] = &[0, 0, 1, 1, 0x12, 0x58];
@@ -55,6 +70,32 @@ const FORWARD_SLICE: &[u8] = &[0, 0, 1, 1, 0x12, 0x58];
 /// A slice of the first row with one intra macroblock whose blocks are flat: quantiser code 1 and no information; address,
 /// type, four blocks of luminance, two of chrominance: 00001 0 1 1 100 10 100 10 100 10 100 10 00 10 00 10.
 const SLICE: &[u8] = &[0, 0, 1, 1, 0x0B, 0x94, 0xA5, 0x22, 0x20];
+
+/// The second row of a frame of an interlaced sequence, so coded: its slice's start code is the next one.
+fn second_row(slice: &[u8]) -> Unit {
+    let mut row = Unit::new();
+    let _ = row.try_extend_from_slice(slice);
+    if let Some(code) = row.get_mut(3) {
+        *code = 2;
+    }
+    row
+}
+
+/// A frame of an interlaced sequence with these parts of a head: two rows.
+pub fn frame_of(parts: &[&[u8]]) -> Unit {
+    let mut unit = unit_of(parts);
+    let _ = unit.try_extend_from_slice(second_row(SLICE).as_slice());
+    unit
+}
+
+/// A B-picture of an interlaced sequence, which is shown for three fields or for two.
+pub fn b_frame(is_three: bool) -> Unit {
+    let mut unit = Unit::new();
+    let _ = unit.try_extend_from_slice(if is_three { B_THREE } else { B_FRAME });
+    let _ = unit.try_extend_from_slice(FORWARD_SLICE);
+    let _ = unit.try_extend_from_slice(second_row(FORWARD_SLICE).as_slice());
+    unit
+}
 
 /// A unit with these parts of a head, and one flat slice.
 pub fn unit_of(parts: &[&[u8]]) -> Unit {

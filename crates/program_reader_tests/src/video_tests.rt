@@ -2,8 +2,8 @@
 
 use crate::packets::{File, Time};
 use crate::streams::{
-    I_BOTTOM, I_FRAME, I_REPEATED, I_TOP, INTERLACED, OPEN_GROUP, PROGRESSIVE, SEQUENCE,
-    SEQUENCE_OF_RATE_1, Unit, b_unit, two_frames, unit_of,
+    I_BOTTOM, I_FRAME, I_REPEATED, I_THREE, I_TOP, INTERLACED, OPEN_GROUP, PROGRESSIVE, SEQUENCE,
+    SEQUENCE_OF_RATE_1, SEQUENCE_OF_RATE_4, Unit, b_frame, b_unit, frame_of, two_frames, unit_of,
 };
 use program_maker::make_program;
 use program_reader::{Program, ProgramFault, SourceKind, read_program};
@@ -114,16 +114,97 @@ fn fields_share_a_frame_period(rt: HostRuntime) -> Result<(), Fail> {
 }
 
 #[test]
+fn film_of_three_fields_and_two_is_due_as_it_is_shown(rt: HostRuntime) -> Result<(), Fail> {
+    // 900,900 ticks a frame: three fields are 1,351,350
+    let units = [
+        (
+            Some(90_000),
+            frame_of(&[SEQUENCE_OF_RATE_4, INTERLACED, I_THREE]),
+        ),
+        (None, frame_of(&[I_FRAME])),
+        (None, b_frame(true)),
+        (None, b_frame(false)),
+        (None, frame_of(&[I_THREE])),
+        (None, frame_of(&[I_FRAME])),
+        (None, frame_of(&[I_FRAME])),
+    ];
+    let program = program_of(rt.alloc(), &units, 90_000)?;
+    let dues = dues_of(rt.alloc(), &program)?;
+    // behind I and P what the one before is shown for, behind B its own
+    assert_eq!(rt;
+        dues.as_slice(),
+        [
+            START,
+            START + 900_900,
+            START + 2_252_250,
+            START + 3_603_600,
+            START + 4_504_500,
+            START + 5_405_400,
+            START + 6_756_750
+        ]
+        .as_slice()
+    );
+    Ok(())
+}
+
+#[test]
+fn a_frame_of_a_progressive_sequence_is_shown_two_or_three_times(
+    rt: HostRuntime,
+) -> Result<(), Fail> {
+    let units = [
+        (Some(90_000), unit_of(&[SEQUENCE, PROGRESSIVE, I_REPEATED])),
+        (None, unit_of(&[I_THREE])),
+        (None, other()),
+        (None, other()),
+    ];
+    let program = program_of(rt.alloc(), &units, 90_000)?;
+    let dues = dues_of(rt.alloc(), &program)?;
+    assert_eq!(rt;
+        dues.as_slice(),
+        [
+            START,
+            START + 1_080_000,
+            START + 3_240_000,
+            START + 6_480_000
+        ]
+        .as_slice()
+    );
+    Ok(())
+}
+
+#[test]
+fn fields_behind_a_frame_of_three_fields_share_what_it_is_shown_for(
+    rt: HostRuntime,
+) -> Result<(), Fail> {
+    let units = [
+        (Some(90_000), frame_of(&[SEQUENCE, INTERLACED, I_THREE])),
+        (None, unit_of(&[I_TOP])),
+        (None, unit_of(&[I_BOTTOM])),
+        (None, frame_of(&[I_FRAME])),
+        (None, frame_of(&[I_FRAME])),
+    ];
+    let program = program_of(rt.alloc(), &units, 90_000)?;
+    let dues = dues_of(rt.alloc(), &program)?;
+    // 540,000 ticks a field: the frame before the pair is shown for 1,620,000, and the pair for 1,080,000
+    assert_eq!(rt;
+        dues.as_slice(),
+        [
+            START,
+            START + 1_080_000,
+            START + 1_620_000,
+            START + 2_700_000,
+            START + 3_780_000
+        ]
+        .as_slice()
+    );
+    Ok(())
+}
+
+#[test]
 fn units_that_are_refused(rt: HostRuntime) -> Result<(), Fail> {
-    let repeated = unit_of(&[SEQUENCE, PROGRESSIVE, I_REPEATED]);
     let field = unit_of(&[SEQUENCE, INTERLACED, I_TOP]);
     let cases = [
         ([(None, first()), (Some(0), other())], SourceKind::NoTime, 0),
-        (
-            [(Some(0), repeated), (None, other())],
-            SourceKind::NoTime,
-            170,
-        ),
         (
             [(Some(1), first()), (Some(1), other())],
             SourceKind::TimeOrder,

@@ -67,10 +67,12 @@ gones-mount low (p ∷ ps) in_order = (omega (arith, in_order.2, in_order.3), go
 packets-valid : (slot low : ℕ) (pieces : List AudioPiece) → InOrder low pieces → All (λ piece. piece.packet.gone ≤ 4194304 * slot) pieces → All (IsValidPacket slot) (packets_in pieces)
 packets-valid slot low [] in_order gones = All-nil (IsValidPacket slot)
 packets-valid slot low (p ∷ ps) in_order gones =
+    let here : p.packet.gone ≤ 4194304 * slot = All-head (λ (piece : AudioPiece). piece.packet.gone ≤ 4194304 * slot) p ps gones in
+    let later : p.packet.gone ≤ 2147483648 * slot = omega (arith, here) in
     All-cons (IsValidPacket slot) p.packet (packets_in ps)
     (record {
       due = in_order.3;
-      gone = omega (arith, All-head (λ (piece : AudioPiece). piece.packet.gone ≤ 4194304 * slot) p ps gones);
+      gone = later;
       some_bytes = in_order.0;
       bytes = in_order.1;
     })

@@ -1,7 +1,7 @@
 mod AudioLimits
 mod AudioTimes
 mod Examples
-mod Rows
+pub mod Rows
 mod TableLimits
-mod UnitLimits
+pub mod UnitLimits
 mod SizedRows

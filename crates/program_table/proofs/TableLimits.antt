@@ -50,16 +50,16 @@ program-fine places slot start number weight content drop coarser program versio
     let es = video_bytes demuxed in
     let packets = video_packets demuxed in
     let pictures = read.has_pictures in
-    let in_order : AreInOrder es packets None read.kept read.pictures = kept-in-order es packets pictures.units.cuts read.kept read.pictures pictures.at_end pictures.kept_are in
+    let in_order : AreInOrder es packets [] read.kept read.pictures = kept-in-order es packets pictures.units.cuts read.kept read.pictures pictures.at_end pictures.kept_are in
     let state : IsState read.first.seq =
     pictures-state read.kept read.first read.pictures es packets pictures.later pictures.first_is in_order in
     let vbv : program.vbv ≡ read.first.seq.vbv = read.vbv_is in
     let least : 1 ≤ read.first.seq.vbv = state.vbv.0 in
     let most : read.first.seq.vbv ≤ 112 = state.vbv.1 in
     let climb : Climb 0 (dues_of program.units) =
-    dues-climb start read.earliest es packets None 0 read.kept read.pictures program.units (λ ticks due later is. omega arith) read.units_are in_order in
+    dues-climb start read.earliest es packets [] 0 read.kept read.pictures program.units (λ ticks due later is. omega arith) read.units_are in_order in
     let rises : IsStrictlyIncreasing (dues_of program.units) = climb-rises 0 (dues_of program.units) climb in
-    let short : All IsShortUnit program.units = units-short start read.earliest es packets None read.kept read.pictures program.units read.units_are in_order in
+    let short : All IsShortUnit program.units = units-short start read.earliest es packets [] read.kept read.pictures program.units read.units_are in_order in
     let as_many : length program.audios ≡ length demuxed.audios = sources-as-many start read.earliest demuxed.audios read.frames program.audios read.audios_are in
     let streams : length demuxed.map.streams.items ≡ suc (length holds.demuxed_is.audios) = ap (λ (xs : List Stream). length xs) holds.demuxed_is.streams in
     let carried : length demuxed.audios ≡ length holds.demuxed_is.audios =

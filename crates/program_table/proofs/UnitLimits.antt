@@ -19,6 +19,7 @@ use Rattle.program_reader.specs.declared.program.UnitSource.{UnitSource}
 use Rattle.program_reader.specs.declared.timed_picture.TimedPicture.{TimedPicture}
 use Rattle.program_reader.specs.Audio.{IsDue}
 use Rattle.program_reader.specs.Programs.{AreUnitSources}
+use Rattle.program_reader.specs.Intervals.{nearest}
 use Rattle.program_reader.specs.Units.{AreInOrder, AreKept, IsLater, all, but_last}
 use Rattle.version_maker.specs.declared.version.UnitVersion.{UnitVersion}
 use Rattle.version_maker.specs.Versions.{AreVersions}
@@ -31,12 +32,12 @@ use Rattle.program_table.specs.Table.{row_version, unit_row, unit_rows}
 -- ---- pictures in order
 
 pub kept-in-order : (es : List ℕ) (packets : List PlacedPacket) (units kept : List (ℕ × ℕ)) (pictures : List TimedPicture) (dropped : ℕ) → AreKept es packets units kept pictures dropped
-    → AreInOrder es packets None kept pictures
+    → AreInOrder es packets [] kept pictures
 kept-in-order es packets units kept pictures dropped (all same in_order none) = in_order
 kept-in-order es packets units kept pictures dropped (but_last last refusal at split in_order broken count) = in_order
 
 -- the state of the first picture is one that may be in force
-first-state : (es : List ℕ) (packets : List PlacedPacket) (kept : List (ℕ × ℕ)) (first : TimedPicture) (later : List TimedPicture) → AreInOrder es packets None kept (first ∷ later)
+first-state : (es : List ℕ) (packets : List PlacedPacket) (kept : List (ℕ × ℕ)) (first : TimedPicture) (later : List TimedPicture) → AreInOrder es packets [] kept (first ∷ later)
     → IsState first.seq
 first-state es packets [] first later in_order = absurd in_order
 first-state es packets (unit ∷ units) first later (next, rest) =
@@ -44,9 +45,9 @@ first-state es packets (unit ∷ units) first later (next, rest) =
     subst IsState coded.seq_is (state-of_unit None coded.picture (bit_list (take (unit.1 - unit.0) (drop unit.0 es))) [] tt coded.whole.spelled)
 
 pub pictures-state : (kept : List (ℕ × ℕ)) (first : TimedPicture) (pictures : List TimedPicture) (es : List ℕ) (packets : List PlacedPacket) (later : List TimedPicture)
-    → pictures ≡ first ∷ later → AreInOrder es packets None kept pictures → IsState first.seq
+    → pictures ≡ first ∷ later → AreInOrder es packets [] kept pictures → IsState first.seq
 pictures-state kept first pictures es packets later first_is in_order =
-    first-state es packets kept first later (subst (AreInOrder es packets None kept) first_is in_order)
+    first-state es packets kept first later (subst (AreInOrder es packets [] kept) first_is in_order)
 
 -- ---- times
 
@@ -71,17 +72,17 @@ dues_of units = map (λ unit. unit.due) units
 later-due : (start : ℕ) (earliest first second : ℤ) (due next : ℕ) → IsDue start earliest first due → IsDue start earliest second next → first <ℤ second → suc due ≤ next
 later-due start earliest first second due next is too order = omega (arith, ints, is, too, order)
 
-pub dues-climb : (start : ℕ) (earliest : ℤ) (es : List ℕ) (packets : List PlacedPacket) (before : Option TimedPicture) (low : ℕ) (units : List (ℕ × ℕ)) (pictures : List TimedPicture)
-    (sources : List UnitSource) → ((ticks : ℤ) (due : ℕ) → IsLater before ticks → IsDue start earliest ticks due → low ≤ due) → AreUnitSources start earliest units pictures sources
-    → AreInOrder es packets before units pictures → Climb low (dues_of sources)
-dues-climb start earliest es packets before low [] [] [] bound are in_order = tt
-dues-climb start earliest es packets before low [] [] (s ∷ ss) bound are in_order = absurd are
-dues-climb start earliest es packets before low [] (p ∷ ps) sources bound are in_order = absurd are
-dues-climb start earliest es packets before low (u ∷ us) [] sources bound are in_order = absurd are
-dues-climb start earliest es packets before low (u ∷ us) (p ∷ ps) [] bound are in_order = absurd are
-dues-climb start earliest es packets before low (unit ∷ units) (picture ∷ pictures) (source ∷ sources) bound (begins, ends, times, due, are) (next, in_order) = (
+pub dues-climb : (start : ℕ) (earliest : ℤ) (es : List ℕ) (packets : List PlacedPacket) (earlier : List TimedPicture) (low : ℕ) (units : List (ℕ × ℕ)) (pictures : List TimedPicture)
+    (sources : List UnitSource) → ((ticks : ℤ) (due : ℕ) → IsLater (nearest earlier) ticks → IsDue start earliest ticks due → low ≤ due) → AreUnitSources start earliest units pictures sources
+    → AreInOrder es packets earlier units pictures → Climb low (dues_of sources)
+dues-climb start earliest es packets earlier low [] [] [] bound are in_order = tt
+dues-climb start earliest es packets earlier low [] [] (s ∷ ss) bound are in_order = absurd are
+dues-climb start earliest es packets earlier low [] (p ∷ ps) sources bound are in_order = absurd are
+dues-climb start earliest es packets earlier low (u ∷ us) [] sources bound are in_order = absurd are
+dues-climb start earliest es packets earlier low (u ∷ us) (p ∷ ps) [] bound are in_order = absurd are
+dues-climb start earliest es packets earlier low (unit ∷ units) (picture ∷ pictures) (source ∷ sources) bound (begins, ends, times, due, are) (next, in_order) = (
   bound picture.ticks source.due next.later due,
-  dues-climb start earliest es packets (Some picture) (suc source.due) units pictures sources
+  dues-climb start earliest es packets (picture ∷ earlier) (suc source.due) units pictures sources
       (λ ticks next_due later is. later-due start earliest picture.ticks ticks source.due next_due due is later) are in_order,
 )
 
@@ -91,16 +92,16 @@ dues-climb start earliest es packets before low (unit ∷ units) (picture ∷ pi
 abbrev pub IsShortUnit : UnitSource → Type 0
 IsShortUnit unit = unit.end - unit.begin ≤ 1048576
 
-pub units-short : (start : ℕ) (earliest : ℤ) (es : List ℕ) (packets : List PlacedPacket) (before : Option TimedPicture) (units : List (ℕ × ℕ)) (pictures : List TimedPicture)
-    (sources : List UnitSource) → AreUnitSources start earliest units pictures sources → AreInOrder es packets before units pictures → All IsShortUnit sources
-units-short start earliest es packets before [] [] [] are in_order = All-nil IsShortUnit
-units-short start earliest es packets before [] [] (s ∷ ss) are in_order = absurd are
-units-short start earliest es packets before [] (p ∷ ps) sources are in_order = absurd are
-units-short start earliest es packets before (u ∷ us) [] sources are in_order = absurd are
-units-short start earliest es packets before (u ∷ us) (p ∷ ps) [] are in_order = absurd are
-units-short start earliest es packets before (unit ∷ units) (picture ∷ pictures) (source ∷ sources) (begins, ends, times, due, are) (next, in_order) =
+pub units-short : (start : ℕ) (earliest : ℤ) (es : List ℕ) (packets : List PlacedPacket) (earlier : List TimedPicture) (units : List (ℕ × ℕ)) (pictures : List TimedPicture)
+    (sources : List UnitSource) → AreUnitSources start earliest units pictures sources → AreInOrder es packets earlier units pictures → All IsShortUnit sources
+units-short start earliest es packets earlier [] [] [] are in_order = All-nil IsShortUnit
+units-short start earliest es packets earlier [] [] (s ∷ ss) are in_order = absurd are
+units-short start earliest es packets earlier [] (p ∷ ps) sources are in_order = absurd are
+units-short start earliest es packets earlier (u ∷ us) [] sources are in_order = absurd are
+units-short start earliest es packets earlier (u ∷ us) (p ∷ ps) [] are in_order = absurd are
+units-short start earliest es packets earlier (unit ∷ units) (picture ∷ pictures) (source ∷ sources) (begins, ends, times, due, are) (next, in_order) =
     let short : unit.1 - unit.0 ≤ 1048576 = next.short in
-    All-cons IsShortUnit source sources (omega (arith, begins, ends, short)) (units-short start earliest es packets (Some picture) units pictures sources are in_order)
+    All-cons IsShortUnit source sources (omega (arith, begins, ends, short)) (units-short start earliest es packets (picture ∷ earlier) units pictures sources are in_order)
 
 pub sources-many : (start : ℕ) (earliest : ℤ) (units : List (ℕ × ℕ)) (pictures : List TimedPicture) (sources : List UnitSource)
     → AreUnitSources start earliest units pictures sources → length sources ≡ length units
@@ -143,11 +144,12 @@ unit-valid places slot weight es coarser before unit versions light few are may 
     let count : length versions ≡ suc (length coarser) = versions-many before (bytes_of_unit es unit) coarser versions is in
     let same : length (map (row_version weight unit) versions) ≡ length versions = length-map versions (row_version weight unit) in
     let bytes : AreBytes (bytes_of_unit es unit) = AreBytes-take (unit.end - unit.begin) (drop unit.begin es) (are-dropped unit.begin es are) in
+    let later : unit.due ≤ 2147483648 * slot = omega (arith, due) in
     let room : 2609192632320 * weight < 281474976710656 = omega (arith, light) in
     let valid : All (λ version. IsValidVersion (row_version weight unit version)) versions =
     places before (bytes_of_unit es unit) coarser versions (length (written_pes_header unit.times)) weight may bytes (bytes-short es unit short) is (header-few unit.times) room in
     record {
-      due = omega (arith, due);
+      due = later;
       some_version = omega (arith, count, same);
       few_versions = omega (arith, count, same, few);
       versions = All-map IsValidVersion (row_version weight unit) versions valid;

@@ -1,5 +1,5 @@
 -- Worked examples of the definitions.
-use Rattle.std.proofs.Common.{◌≡◌, ◌+◌, ◌*◌, ◌<◌, false, List, [], ◌∷◌, None, Some, refl, arith, ℤ, pos, ◌+ℤ◌, ◌*ℤ◌}
+use Rattle.std.proofs.Common.{◌≡◌, ℕ, ◌+◌, ◌*◌, ◌<◌, Bool, true, false, List, [], ◌∷◌, None, Some, refl, arith, ℤ, pos, ◌+ℤ◌, ◌*ℤ◌}
 use Rattle.std.proofs.lemmas.Int.{ints}
 use Rattle.bit_lists.specs.Fields.{bit, bits}
 use Rattle.syntax_types.specs.declared.picture.PicCoding.{PicCoding}
@@ -9,6 +9,7 @@ use Rattle.ts_packets.specs.Packet.{PacketRecord}
 use Rattle.pcr_writer.specs.PcrPacket.{pcr_at}
 use Rattle.ts_demux.specs.declared.demuxed.PesUnit.{PesUnit}
 use Rattle.program_reader.specs.declared.pes_packets.PlacedPacket.{PlacedPacket}
+use Rattle.program_reader.specs.declared.timed_picture.Role.{Role}
 use Rattle.program_reader.specs.declared.timed_picture.Role.TheVariants as roles
 use Rattle.program_reader.specs.Audio.{placed_pieces}
 use Rattle.time_laws.specs.Audio.{AreWantedWhen}
@@ -89,20 +90,39 @@ no_time_example = refl
 
 -- ---- pictures without a time, at 25 frames a second, behind one that is decoded 27,000 ticks behind the first byte
 
-frame_example : (seq : SeqState) (coding : PicCoding)
-    → IsDecodedWhen 2576980350600 (Some (record { seq = record seq { rate_code = 3 }; coding = record coding { repeat_first_field = false }; role = roles.Frame; at = 27000 })) None 1107000
-frame_example seq coding = (refl, refl)
+module _ (seq : SeqState) (coding : PicCoding) where
+  -- a picture of this picture_coding_type, in an interlaced sequence
+  abbrev at_25 : Role → (kind : ℕ) → (repeats : Bool) → (at : ℕ) → DecodedPicture
+  at_25 role kind repeats at = record {
+    seq = record seq { rate_code = 3; progressive = false };
+    coding = record coding { kind = kind; repeat_first_field = repeats };
+    role = role;
+    at = at;
+  }
 
-field_example : (seq : SeqState) (coding : PicCoding)
-    → IsDecodedWhen 2576980350600 (Some (record { seq = record seq { rate_code = 3 }; coding = record coding { repeat_first_field = false }; role = roles.FirstField; at = 27000 })) None 567000
-field_example seq coding = (refl, refl)
+  -- behind the first frame a frame period, though it repeats a field itself
+  frame_example : IsDecodedWhen 2576980350600 (at_25 roles.Frame 1 true 27000 ∷ []) None 1107000
+  frame_example = refl
+
+  -- behind a P frame what the I frame before it is shown for, which repeats a field; behind a B frame what it is shown for itself
+  after_repeat_example : IsDecodedWhen 2576980350600 (at_25 roles.Frame 2 false 27000 ∷ at_25 roles.Frame 1 true 0 ∷ []) None 1647000
+  after_repeat_example = refl
+
+  b_example : IsDecodedWhen 2576980350600 (at_25 roles.Frame 3 false 27000 ∷ at_25 roles.Frame 2 true 0 ∷ []) None 1107000
+  b_example = refl
+
+  not_later_than_b_example : IsDecodedWhen 2576980350600 (at_25 roles.Frame 3 false 27000 ∷ at_25 roles.Frame 2 true 0 ∷ []) None 1647000 → ⊥
+  not_later_than_b_example is = let same : 1647000 ≡ 1107000 = is in omega (arith, same)
+
+  field_example : IsDecodedWhen 2576980350600 (at_25 roles.FirstField 1 false 27000 ∷ []) None 567000
+  field_example = refl
 
 -- the first picture has a time
-first_example : IsDecodedWhen 2576980350600 None None 27000 → ⊥
+first_example : IsDecodedWhen 2576980350600 [] None 27000 → ⊥
 first_example none = none
 
 -- with a time, what stands before it doesn't matter
-stated_example : (before : DecodedPicture) → IsDecodedWhen 2576980350600 (Some before) (Some 0) 27000
+stated_example : (before : DecodedPicture) → IsDecodedWhen 2576980350600 (before ∷ []) (Some 0) 27000
 stated_example before = shown_example
 
 -- ---- audio: one PES packet of a header of 14 bytes and 400 bytes behind it, with two frames of 200 bytes, one at 0 and one 24 ms later

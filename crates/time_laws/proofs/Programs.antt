@@ -68,7 +68,7 @@ head-of first (p ∷ ps) = p
 
 begins : (es coarser : List ℕ) (placed : List PlacedPacket) (weight start : ℕ) (earliest : ℤ) (state : Option SeqState) (kept : List (ℕ × ℕ)) (pictures : List TimedPicture) (units : List UnitSource)
     (versions : List (List UnitVersion)) (choice : List ℕ) (more : List CodedUnit) (packets : List PesUnit) (first : TimedPicture) (later : List TimedPicture) → pictures ≡ first ∷ later
-    → AreInOrder es placed None kept pictures → AreUnitSources start earliest kept pictures units → AreVideoVersions es coarser state units versions
+    → AreInOrder es placed [] kept pictures → AreUnitSources start earliest kept pictures units → AreVideoVersions es coarser state units versions
     → AllZip HasVersion (unit_rows weight units versions ++ more) choice → AreReadAs (sent_units units versions choice) (bytes_of_packets packets) → Begins pictures units packets first
 begins es coarser placed weight start earliest state kept [] units versions choice more packets first later split in_order are are_versions fits read =
     absurd (let e = ap (length {A = TimedPicture}) split in omega (arith, e))
@@ -107,7 +107,7 @@ pids-in-a-row pid (s ∷ ss) = ap (λ (pids : List ℕ). pid ∷ pids) (pids-in-
 -- ---- kept units
 
 kept-in-order : (es : List ℕ) (placed : List PlacedPacket) (units kept : List (ℕ × ℕ)) (pictures : List TimedPicture) (dropped : ℕ) → AreKept es placed units kept pictures dropped
-    → AreInOrder es placed None kept pictures
+    → AreInOrder es placed [] kept pictures
 kept-in-order es placed units kept pictures dropped (AreKept.all same in_order none) = in_order
 kept-in-order es placed units kept pictures dropped (AreKept.but_last last refusal at split in_order broken one) = in_order
 
@@ -137,7 +137,7 @@ module _ (laws : SpellingLaws) (one : OneDemuxed) (wherever : WhereverItStands) 
       let is : IsProgram start of.demuxed p = of.program_is in
       let source : read.source ≡ of.demuxed = one content job.program job.drop.items read.source of.demuxed read.source_is of.demuxed_is in
       let video : p.video ≡ es = is.video_is in
-      let in_order : AreInOrder es placed None is.kept is.pictures =
+      let in_order : AreInOrder es placed [] is.kept is.pictures =
       kept-in-order es placed is.has_pictures.units.cuts is.kept is.pictures is.has_pictures.at_end is.has_pictures.kept_are in
       let of_video : AreVideoVersions es coarser None p.units v = subst (λ (bytes : List ℕ). AreVideoVersions bytes coarser None p.units v) video versions in
       let begin = begins es coarser placed job.weight start is.earliest None is.kept is.pictures p.units v choice more read.demuxed.video is.first is.has_pictures.later
@@ -145,8 +145,8 @@ module _ (laws : SpellingLaws) (one : OneDemuxed) (wherever : WhereverItStands) 
       let early_units : All (λ (unit : UnitSource). unit.due < 2576980377600) p.units =
       All-weaker (λ (unit : UnitSource). unit.due ≤ last_time slot) (λ (unit : UnitSource). unit.due < 2576980377600)
       (λ unit within. early-time slot unit.due short within) p.units next.within.units in
-      let shown : AreDecoded p.base None read.demuxed.video (all_outgoing is.pictures p.units) =
-      decoded laws es coarser placed job.weight start p.base is.earliest is.base_is None None tt tt is.kept is.pictures p.units v choice more read.demuxed.video
+      let shown : AreDecoded p.base [] read.demuxed.video (all_outgoing is.pictures p.units) =
+      decoded laws es coarser placed job.weight start p.base is.earliest is.base_is [] [] (record { last = tt; all = refl; tells = tt }) tt is.kept is.pictures p.units v choice more read.demuxed.video
       in_order is.units_are of_video fits early_units read.video in
       let audio : AllTaken read.demuxed.audios of.demuxed.audios =
       subst (λ (d : Demuxed). AllTaken read.demuxed.audios d.audios) source (all-taken read.demuxed.audios read.source.audios read.audio) in
@@ -172,7 +172,7 @@ module _ (laws : SpellingLaws) (one : OneDemuxed) (wherever : WhereverItStands) 
         clock = subst (λ (pid : ℕ). IsClock stream slot pid p.base) (sym (ap (λ (m : ProgramMap). m.pcr_pid) read.map_is)) clock;
         first = outgoing is.first begin.unit;
         later = begin.later;
-        decoded = subst (AreDecoded p.base None read.demuxed.video) begin.out shown;
+        decoded = subst (AreDecoded p.base [] read.demuxed.video) begin.out shown;
         dues = dues-are es coarser job.weight start is.earliest None is.kept is.pictures p.units v is.units_are of_video
             ∙ ap (map (λ (picture : DecodedPicture). picture.at)) begin.out;
         sizes = sizes-are es coarser job.weight None p.units v choice more read.demuxed.video of_video fits read.video;

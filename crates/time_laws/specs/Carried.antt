@@ -1,5 +1,5 @@
 -- The due and gone times of a table are those that a stream itself carries, and the stream is clean by them (ISO/IEC 13818-1, 2.4.2 and 2.4.3.7).
-use Rattle.std.specs.Prelude.{◌≡◌, ℕ, ◌+◌, List, [], ◌∷◌, length, map, slice_get, Some, None, pos}
+use Rattle.std.specs.Prelude.{◌≡◌, ℕ, ◌+◌, List, [], ◌∷◌, length, map, slice_get, Some, pos}
 use Rattle.std.specs.List.{range_with_len, zip}
 use Rattle.audio_frames.specs.declared.frame.Frame.{Frame}
 use Rattle.ts_packets.specs.Packet.{PacketRecord}
@@ -33,7 +33,7 @@ pub record CarriesTimes (bytes : List ℕ) (stream : List PacketRecord) (slot pl
   pub clock : IsClock stream slot demuxed.map.pcr_pid base
   pub first : DecodedPicture
   pub later : List DecodedPicture
-  pub decoded : AreDecoded base None demuxed.video (first ∷ later)
+  pub decoded : AreDecoded base [] demuxed.video (first ∷ later)
   pub dues : map (λ unit. unit.due) row.units ≡ map (λ picture. picture.at) (first ∷ later)
   pub sizes : map (λ chosen. (version_at chosen.0 chosen.1).bytes) (zip row.units choice) ≡ map (λ packet. length packet.bytes) demuxed.video
   pub buffer : row.vbv ≡ first.seq.vbv

@@ -63,6 +63,7 @@ use Rattle.program_reader.specs.Packets.{pes_payload_of, placed_from, taken}
 use Rattle.program_reader.specs.PictureTimes.{first_picture, is_first_picture_in, no_times, times_at, times_of_unit}
 use Rattle.program_reader.specs.Programs.{AreUnitSources, IsProgram, video_bytes, video_packets}
 use Rattle.picture_reader.specs.Picture.{IsPictureOf}
+use Rattle.program_reader.specs.Intervals.{nearest}
 use Rattle.program_reader.specs.Units.{AreInOrder, AreKept, all, but_last, state_behind}
 use Rattle.program_reader.specs.Private.KeptUnits.{Fits}
 use Rattle.program_reader.proofs.CutLemmas.{cuts_fit}
@@ -124,7 +125,7 @@ fits-front size from (unit ∷ units) behind fits = (fits.0, fits.1, fits.2, fit
 
 -- units stand one behind the other, as pictures in order
 abbrev StandInOrder : List ℕ → List PlacedPacket → List (ℕ × ℕ) → List TimedPicture → Type 0
-StandInOrder es packets units pictures = Fits (length es) 0 units × AreInOrder es packets None units pictures
+StandInOrder es packets units pictures = Fits (length es) 0 units × AreInOrder es packets [] units pictures
 
 kept-stand : (es : List ℕ) (packets : List PlacedPacket) (units kept : List (ℕ × ℕ)) (pictures : List TimedPicture) (dropped : ℕ) → Fits (length es) 0 units
     → AreKept es packets units kept pictures dropped → StandInOrder es packets kept pictures
@@ -132,15 +133,15 @@ kept-stand es packets units kept pictures dropped fits (all same in_order none) 
 kept-stand es packets units kept pictures dropped fits (but_last last refusal at split in_order broken count) =
     (fits-front (length es) 0 kept (last ∷ []) (subst (Fits (length es) 0) split fits), in_order)
 
-units-stand : (start : ℕ) (earliest : ℤ) (es : List ℕ) (packets : List PesUnit) (before : Option TimedPicture) (from : ℕ) (units : List (ℕ × ℕ)) (pictures : List TimedPicture)
-    (sources : List UnitSource) → AreUnitSources start earliest units pictures sources → Fits (length es) from units → AreInOrder es (placed_from 0 packets) before units pictures
+units-stand : (start : ℕ) (earliest : ℤ) (es : List ℕ) (packets : List PesUnit) (earlier : List TimedPicture) (from : ℕ) (units : List (ℕ × ℕ)) (pictures : List TimedPicture)
+    (sources : List UnitSource) → AreUnitSources start earliest units pictures sources → Fits (length es) from units → AreInOrder es (placed_from 0 packets) earlier units pictures
     → All (IsUnitOf es) sources
-units-stand start earliest es packets before from [] [] [] are fits in_order = All-nil (IsUnitOf es)
-units-stand start earliest es packets before from [] [] (s ∷ ss) are fits in_order = absurd are
-units-stand start earliest es packets before from [] (p ∷ ps) sources are fits in_order = absurd are
-units-stand start earliest es packets before from (u ∷ us) [] sources are fits in_order = absurd are
-units-stand start earliest es packets before from (u ∷ us) (p ∷ ps) [] are fits in_order = absurd are
-units-stand start earliest es packets before from (unit ∷ units) (picture ∷ pictures) (source ∷ sources) (begins, ends, times, due, are) (after, order, inside, fits) (next, in_order) =
+units-stand start earliest es packets earlier from [] [] [] are fits in_order = All-nil (IsUnitOf es)
+units-stand start earliest es packets earlier from [] [] (s ∷ ss) are fits in_order = absurd are
+units-stand start earliest es packets earlier from [] (p ∷ ps) sources are fits in_order = absurd are
+units-stand start earliest es packets earlier from (u ∷ us) [] sources are fits in_order = absurd are
+units-stand start earliest es packets earlier from (u ∷ us) (p ∷ ps) [] are fits in_order = absurd are
+units-stand start earliest es packets earlier from (unit ∷ units) (picture ∷ pictures) (source ∷ sources) (begins, ends, times, due, are) (after, order, inside, fits) (next, in_order) =
     let said : CanBeSaid source.times = subst CanBeSaid (sym (times ∙ next.times_are)) (unit-said es packets unit) in
     let here : IsUnitOf es source = record {
       order = omega (arith, begins, ends, order);
@@ -149,21 +150,21 @@ units-stand start earliest es packets before from (unit ∷ units) (picture ∷ 
       in_range = said.0;
       beside = said.1;
     } in
-    All-cons (IsUnitOf es) source sources here (units-stand start earliest es packets (Some picture) unit.1 units pictures sources are fits in_order)
+    All-cons (IsUnitOf es) source sources here (units-stand start earliest es packets (picture ∷ earlier) unit.1 units pictures sources are fits in_order)
 
-spell-in-order : (start : ℕ) (earliest : ℤ) (es : List ℕ) (packets : List PlacedPacket) (before : Option TimedPicture) (units : List (ℕ × ℕ)) (pictures : List TimedPicture)
-    (sources : List UnitSource) → AreUnitSources start earliest units pictures sources → AreInOrder es packets before units pictures → SpellInOrder es (state_behind before) sources
-spell-in-order start earliest es packets before [] [] [] are in_order = tt
-spell-in-order start earliest es packets before [] [] (s ∷ ss) are in_order = absurd are
-spell-in-order start earliest es packets before [] (p ∷ ps) sources are in_order = absurd are
-spell-in-order start earliest es packets before (u ∷ us) [] sources are in_order = absurd are
-spell-in-order start earliest es packets before (u ∷ us) (p ∷ ps) [] are in_order = absurd are
-spell-in-order start earliest es packets before (unit ∷ units) (picture ∷ pictures) (source ∷ sources) (begins, ends, times, due, are) (next, in_order) =
+spell-in-order : (start : ℕ) (earliest : ℤ) (es : List ℕ) (packets : List PlacedPacket) (earlier : List TimedPicture) (units : List (ℕ × ℕ)) (pictures : List TimedPicture)
+    (sources : List UnitSource) → AreUnitSources start earliest units pictures sources → AreInOrder es packets earlier units pictures → SpellInOrder es (state_behind (nearest earlier)) sources
+spell-in-order start earliest es packets earlier [] [] [] are in_order = tt
+spell-in-order start earliest es packets earlier [] [] (s ∷ ss) are in_order = absurd are
+spell-in-order start earliest es packets earlier [] (p ∷ ps) sources are in_order = absurd are
+spell-in-order start earliest es packets earlier (u ∷ us) [] sources are in_order = absurd are
+spell-in-order start earliest es packets earlier (u ∷ us) (p ∷ ps) [] are in_order = absurd are
+spell-in-order start earliest es packets earlier (unit ∷ units) (picture ∷ pictures) (source ∷ sources) (begins, ends, times, due, are) (next, in_order) =
     let coded = next.coded in
     let bytes : slice_range es unit.0 unit.1 ≡ slice_range es source.begin source.end = ap₂ (slice_range es) (sym begins) (sym ends) in (
       picture.seq,
-      record { picture = coded.picture; whole = subst (λ (b : List ℕ). IsPictureOf (state_behind before) b coded.picture) bytes coded.whole; after_is = coded.seq_is },
-      spell-in-order start earliest es packets (Some picture) units pictures sources are in_order,
+      record { picture = coded.picture; whole = subst (λ (b : List ℕ). IsPictureOf (state_behind (nearest earlier)) b coded.picture) bytes coded.whole; after_is = coded.seq_is },
+      spell-in-order start earliest es packets (picture ∷ earlier) units pictures sources are in_order,
     )
 
 -- ---- audio
@@ -260,8 +261,8 @@ read-sendable start demuxed program is =
     let stand : StandInOrder es (video_packets demuxed) is.kept is.pictures =
     kept-stand es (video_packets demuxed) pictures.units.cuts is.kept is.pictures pictures.at_end fits pictures.kept_are in record {
       units = subst (λ (video : List ℕ). All (IsUnitOf video) program.units) (sym is.video_is)
-          (units-stand start is.earliest es (taken true demuxed.video) None 0 is.kept is.pictures program.units is.units_are stand.0 stand.1);
+          (units-stand start is.earliest es (taken true demuxed.video) [] 0 is.kept is.pictures program.units is.units_are stand.0 stand.1);
       pictures = subst (λ (video : List ℕ). SpellInOrder video None program.units) (sym is.video_is)
-          (spell-in-order start is.earliest es (video_packets demuxed) None is.kept is.pictures program.units is.units_are stand.1);
+          (spell-in-order start is.earliest es (video_packets demuxed) [] is.kept is.pictures program.units is.units_are stand.1);
       audio = sources-stand start is.earliest is.first.stated demuxed.audios is.frames program.audios is.have_frames is.audios_are;
     }

@@ -12,6 +12,7 @@ use Rattle.program_reader.specs.Units.{AreKept, AreInOrder, last_of}
 use Rattle.program_reader.specs.Private.AudioStarts.{IsNear}
 use Rattle.program_reader.specs.Private.Dues.{IsTime}
 use Rattle.program_reader.specs.Private.TakenPackets.{Holds}
+use Rattle.program_reader.specs.Private.TimedPictures.{IsShown}
 
 -- what is taken of a stream of a file within its limit
 pub record IsVideo (held : TakenPackets) : Type 0 where
@@ -42,7 +43,7 @@ first_of (picture ∷ _) = Some picture
 
 -- how far from 0 a time in ticks may be, behind so many stated times and so many units
 abbrev pub far : ℕ → ℕ → ℕ
-far count units = 300 * (2 ^ 33 + count * 2 ^ 32) + 1126125 * units
+far count units = 300 * (2 ^ 33 + count * 2 ^ 32) + 3378375 * units
 
 -- a picture with a state that may be in force, whose times are that near behind so many stated times and so many units
 pub record IsPictureNear (count units : ℕ) (picture : TimedPicture) : Type 0 where
@@ -50,10 +51,12 @@ pub record IsPictureNear (count units : ℕ) (picture : TimedPicture) : Type 0 w
   pub stated : IsNear count picture.stated
   pub least : neg_ℤ (pos (far count units)) ≤ℤ picture.ticks
   pub most : picture.ticks ≤ℤ pos (far count units)
+  pub shown_before : IfSome picture.reference_before IsShown
+  pub shown_behind : IfSome picture.reference_behind IsShown
 
 -- units are kept as these pictures
 pub record Keep (es : List ℕ) (packets : List PlacedPacket) (units : List (ℕ × ℕ)) (pictures : List TimedPicture) (kept : KeptUnits) : Type 0 where
-  pub in_order : AreInOrder es packets None units pictures
+  pub in_order : AreInOrder es packets [] units pictures
   pub rows : AreRows units pictures kept.units.items
   pub first_is : kept.first ≡ first_of pictures
   pub first_near : IfSome kept.first (λ picture. IsNear 0 picture.stated)

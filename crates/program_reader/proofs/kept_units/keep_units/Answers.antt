@@ -1,4 +1,4 @@
-use Rattle.std.proofs.Common.{◌+◌, ◌==◌, List, None, map, Option, length, get_or, IfSome, refl, sym, subst}
+use Rattle.std.proofs.Common.{◌+◌, ◌==◌, List, [], ◌∙◌, None, map, Option, length, get_or, IfSome, refl, sym, subst}
 use Rattle.std.specs.Option.{option_copied}
 use Rattle.pes_units.specs.declared.times.Times.{Times}
 use Rattle.pes_units.specs.Times.{decoding_time}
@@ -11,6 +11,9 @@ use Rattle.program_reader.specs.Private.SizedUnits.{kept_at}
 use Rattle.program_reader.specs.Private.TimedPictures.{IsPossible}
 use Rattle.program_reader.proofs.TimeRange.{IsInRange}
 use Rattle.program_reader.proofs.KeepLemmas.{
+  all_earlier,
+  earlier_last,
+  earlier_tells,
   kept_none,
   next_unit,
   possible_before,
@@ -87,6 +90,7 @@ unit_picture-requires-clause-before c =
 
 pub returns-in-Ok-None-clause-kept : goal.returns-in-Ok-None-clause-kept
 returns-in-Ok-None-clause-kept c =
+    let so_far = c.loop-at.invariant.so_far in
     let unit = get_or c.args.cuts.now c.loop-at.at (0, 0) in
     let es = c.args.video.now.payload.items in
     let packets = c.args.video.now.packets.items in
@@ -94,7 +98,9 @@ returns-in-Ok-None-clause-kept c =
     let found = told c.as_slice-es.result.now es packets unit c.loop-at.left.now c.unit_times-found.result.left.now c.unit_times-found.result.times c.as_slice-es.ensures.value here.tells
     here.order c.unit_times-found.ensures.times c.unit_times-found.ensures.left in
     let given : TimedUnit = record { begin = unit.0; end = unit.1; times = c.unit_times-found.result.times; is_last = c.loop-at.at + 1 == length c.args.cuts.now } in
-    let broken = found_none c.as_slice-es.result.now packets (option_copied c.as_ref.result) given c.in-Ok-None.field-0 c.in-Ok-None.field-0-is (c.in-Ok-None.ensures.found packets found.0) in
+    let broken = found_none c.as_slice-es.result.now packets (all_earlier [] so_far.pictures) (option_copied c.as_ref.result) given c.in-Ok-None.field-0 c.in-Ok-None.field-0-is
+    (c.in-Ok-None.ensures.found packets (all_earlier [] so_far.pictures) (earlier_last es packets c.args.cuts.now c.loop-at.at c.loop-at.left.now c.loop-at.kept so_far ∙ sym c.as_ref.ensures.value)
+    (earlier_tells es packets c.args.cuts.now c.loop-at.at c.loop-at.left.now c.loop-at.kept so_far) found.0) in
     kept_but_last es packets c.args.cuts.now c.loop-at.at unit c.loop-at.left.now c.loop-at.kept (record c.loop-at.kept { dropped = 1 }) broken.1 broken.2 _ c.loop-at-test.true refl refl
     broken.0 c.loop-at.invariant.so_far
     (broken_same c.as_slice-es.result.now es (option_copied c.as_ref.result) c.loop-at.kept.last unit broken.1 broken.2 c.as_slice-es.ensures.value c.as_ref.ensures.value broken.3)
@@ -102,6 +108,7 @@ returns-in-Ok-None-clause-kept c =
 
 pub returns-in-Err-clause-kept : goal.returns-in-Err-clause-kept
 returns-in-Err-clause-kept c =
+    let so_far = c.loop-at.invariant.so_far in
     let unit = get_or c.args.cuts.now c.loop-at.at (0, 0) in
     let es = c.args.video.now.payload.items in
     let packets = c.args.video.now.packets.items in
@@ -110,10 +117,12 @@ returns-in-Err-clause-kept c =
     here.order c.unit_times-found.ensures.times c.unit_times-found.ensures.left in
     unit_refused es packets c.args.cuts.now c.loop-at.at unit c.loop-at.left.now c.loop-at.kept _ c.in-Err.fault c.loop-at-test.true refl refl c.loop-at.invariant.so_far
     (refused_same c.as_slice-es.result.now es packets (option_copied c.as_ref.result) c.loop-at.kept.last unit _ c.in-Err.fault c.as_slice-es.ensures.value c.as_ref.ensures.value
-    (c.in-Err.ensures.found packets found.0))
+    (c.in-Err.ensures.found packets (all_earlier [] so_far.pictures) (earlier_last es packets c.args.cuts.now c.loop-at.at c.loop-at.left.now c.loop-at.kept so_far ∙ sym c.as_ref.ensures.value)
+    (earlier_tells es packets c.args.cuts.now c.loop-at.at c.loop-at.left.now c.loop-at.kept so_far) found.0))
 
 pub loop-at-preserved : goal.loop-at-preserved
 loop-at-preserved c =
+    let so_far = c.loop-at.invariant.so_far in
     let unit = get_or c.args.cuts.now c.loop-at.at (0, 0) in
     let es = c.args.video.now.payload.items in
     let packets = c.args.video.now.packets.items in
@@ -122,17 +131,20 @@ loop-at-preserved c =
     here.order c.unit_times-found.ensures.times c.unit_times-found.ensures.left in
     let given : TimedUnit = record { begin = unit.0; end = unit.1; times = c.unit_times-found.result.times; is_last = c.loop-at.at + 1 == length c.args.cuts.now } in
     let asked = c.args.wanted.now in
-    let next = next_same c.as_slice-es.result.now es packets (option_copied c.as_ref.result) c.loop-at.kept.last unit c.in-Ok-Some.picture c.as_slice-es.ensures.value c.as_ref.ensures.value
-    (found_some c.as_slice-es.result.now packets (option_copied c.as_ref.result) given c.in-Ok-Some.field-0 c.in-Ok-Some.picture c.in-Ok-Some.field-0-is
-    (c.in-Ok-Some.ensures.found packets found.0)) in
+    let earlier = all_earlier [] so_far.pictures in
+    let next = next_same c.as_slice-es.result.now es packets earlier unit c.in-Ok-Some.picture c.as_slice-es.ensures.value
+    (found_some c.as_slice-es.result.now packets earlier (option_copied c.as_ref.result) given c.in-Ok-Some.field-0 c.in-Ok-Some.picture c.in-Ok-Some.field-0-is
+    (c.in-Ok-Some.ensures.found packets earlier (earlier_last es packets c.args.cuts.now c.loop-at.at c.loop-at.left.now c.loop-at.kept so_far ∙ sym c.as_ref.ensures.value)
+    (earlier_tells es packets c.args.cuts.now c.loop-at.at c.loop-at.left.now c.loop-at.kept so_far) found.0)) in
     let own = sized_found (state_behind (option_copied c.as_ref.result)) (unit_bytes c.as_slice-es.result.now unit) asked.coarser.now asked.are_wanted c.loop-at.sizes.items
     c.unit_picture.new.sizes.items c.in-Ok-Some.field-0 c.in-Ok-Some.picture c.in-Ok-Some.field-0-is c.in-Ok-Some.ensures.sizes in
     record {
       so_far = kept_more es packets c.args.cuts.now c.loop-at.at unit c.loop-at.left.now c.unit_times-found.result.left.now c.loop-at.kept c.add.new.self c.unit_times-found.result.times
           c.in-Ok-Some.picture c.loop-at-test.true c.requires.few refl (video_ranges c.args.video.now c.requires.video) c.loop-at.invariant.so_far found.2 c.unit_times-found.ensures.counted found.1
           next c.in_ok-add-in-Ok-Some.ensures.units c.in_ok-add-in-Ok-Some.ensures.first c.in_ok-add-in-Ok-Some.ensures.last c.in_ok-add-in-Ok-Some.ensures.dropped;
-      sized = sized_more c.as_slice-es.result.now es packets asked.coarser.now asked.are_wanted (option_copied c.as_ref.result) unit c.in-Ok-Some.picture c.loop-at.kept c.add.new.self
-          c.loop-at.sizes.items c.unit_picture.new.sizes.items c.as_slice-es.ensures.value c.as_ref.ensures.value here.order here.within next own c.in_ok-add-in-Ok-Some.ensures.units
+      sized = sized_more c.as_slice-es.result.now es packets asked.coarser.now asked.are_wanted earlier (option_copied c.as_ref.result) unit c.in-Ok-Some.picture c.loop-at.kept c.add.new.self
+          c.loop-at.sizes.items c.unit_picture.new.sizes.items c.as_slice-es.ensures.value c.as_ref.ensures.value
+          (earlier_last es packets c.args.cuts.now c.loop-at.at c.loop-at.left.now c.loop-at.kept so_far) here.order here.within next own c.in_ok-add-in-Ok-Some.ensures.units
           c.in_ok-add-in-Ok-Some.ensures.last c.loop-at.invariant.sized;
     }
 

@@ -12,19 +12,19 @@ use Rattle.program_reader.proofs.UnitLemmas.{rate_of, coded_of, broken_is, may_p
 use Rattle.program_reader.proofs.unit_picture.unit_picture.Goals as goal
 
 pub returns-in-Err-clause-found : goal.returns-in-Err-clause-found
-returns-in-Err-clause-found c = λ packets are.
+returns-in-Err-clause-found c = λ packets earlier same tells are.
     let before = option_copied c.args.before in
     let unit = c.args.unit.now in
     let refused = subst (λ (state : Option SeqState). IsRefusedAs state (unit_bytes c.args.es.now (unit.begin, unit.end)) c.in-Err.fault) c.state_behind.ensures c.in-Err.ensures.refused in
-    subst (λ result. MatchResult result (IsFound c.args.es.now packets before unit) (IsNotFound c.args.es.now packets before unit)) (sym c.broken.ensures)
-    (broken_is c.args.es.now packets before unit (refusal_told c.in-Err.fault) refused)
+    subst (λ result. MatchResult result (IsFound c.args.es.now packets earlier before unit) (IsNotFound c.args.es.now packets before unit)) (sym c.broken.ensures)
+    (broken_is c.args.es.now packets earlier before unit (refusal_told c.in-Err.fault) refused)
 
 pub timed_picture-requires-clause-rate : goal.timed_picture-requires-clause-rate
 timed_picture-requires-clause-rate c = rate_of (option_copied c.args.before) (option_copied c.state_behind.result) (unit_bytes c.args.es.now (c.args.unit.now.begin, c.args.unit.now.end))
     c.in-Ok.headers c.state_behind.ensures c.requires.before c.in-Ok.ensures.ok
 
 pub returns-in-Err-timed_picture-clause-found : goal.returns-in-Err-timed_picture-clause-found
-returns-in-Err-timed_picture-clause-found c = λ packets are. inr (c.in-Err-timed_picture.ensures c.args.es.now packets
+returns-in-Err-timed_picture-clause-found c = λ packets earlier same tells are. inr (c.in-Err-timed_picture.ensures c.args.es.now packets earlier same tells
     (coded_of c.args.es.now (option_copied c.args.before) (option_copied c.state_behind.result) (c.args.unit.now.begin, c.args.unit.now.end) c.in-Ok.headers c.state_behind.ensures c.in-Ok.ensures.ok)
     are c.args.unit.now.is_last)
 
@@ -44,3 +44,8 @@ returns-in-Ok-timed_picture-clause-sizes c =
     let asked = c.args.wanted.now in
     subst (λ (state : Option SeqState). IsSizedBehind state (unit_bytes c.args.es.now (unit.begin, unit.end)) asked.coarser.now asked.are_wanted c.args.sizes.now.items c.check_unit.new.sizes.items)
     c.state_behind.ensures c.in-Ok.ensures.sizes
+
+pub returns-in-Ok-timed_picture-clause-found : goal.returns-in-Ok-timed_picture-clause-found
+returns-in-Ok-timed_picture-clause-found c = λ packets earlier same tells are. c.in-Ok-timed_picture.ensures c.args.es.now packets earlier same tells
+    (coded_of c.args.es.now (option_copied c.args.before) (option_copied c.state_behind.result) (c.args.unit.now.begin, c.args.unit.now.end) c.in-Ok.headers c.state_behind.ensures c.in-Ok.ensures.ok)
+    are
