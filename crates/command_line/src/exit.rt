@@ -1,10 +1,10 @@
 ghost use Rattle.std.specs.Prelude.{◌≡◌, ◌⊎◌, map};
 ghost use Rattle.std.specs.String.{string_bytes};
-ghost use Rattle.remux_core.specs.declared.status.Status.{Status as AnyStatus};
-ghost use Rattle.remux_core.specs.Command.{IsCommand};
+ghost use Rattle.command_words.specs.declared.status.Status.{Status as AnyStatus};
+ghost use Rattle.command_words.specs.Command.{IsCommand};
 ghost use Rattle.remux_core.specs.Outcome.{Outcome};
-ghost use Rattle.remux_core.specs.Outside.{shelf_facts, sink_facts};
-ghost use Rattle.remux_core.specs.Status.{code_of};
+ghost use Rattle.command_words.specs.Outside.{shelf_facts, sink_facts};
+ghost use Rattle.command_words.specs.Status.{code_of};
 
 use crate::sentence::print_sentence;
 use remux_core::run;

@@ -2,7 +2,7 @@
 //! and for each status but 0 a sentence on standard error that says what is wrong and what to do.
 //!
 //! All that it promises stands on `remux_core`'s `run`: the exit status is the code of the status that `run` ends with.
-//! Stands on `remux_core`, `shelf_io` and `version_table`.
+//! Stands on `remux_core`, `command_words`, `shelf_io` and `version_table`.
 #![tactic(auto)]
 
 mod exit;

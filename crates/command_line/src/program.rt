@@ -1,8 +1,8 @@
 ghost use Rattle.std.specs.Prelude.{◌≡◌, ◌⊎◌, map};
 ghost use Rattle.std.specs.String.{string_bytes};
-ghost use Rattle.remux_core.specs.Command.{IsCommand};
-ghost use Rattle.remux_core.specs.Status.{code_of};
-ghost use Rattle.remux_core.specs.declared.status.Status.{Status as AnyStatus};
+ghost use Rattle.command_words.specs.Command.{IsCommand};
+ghost use Rattle.command_words.specs.Status.{code_of};
+ghost use Rattle.command_words.specs.declared.status.Status.{Status as AnyStatus};
 
 use crate::exit::exit_status;
 use shelf_kinds::{FileShelf, OutSink};

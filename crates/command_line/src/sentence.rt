@@ -1,7 +1,7 @@
 use bound_certificate::CertFormat;
+use command_words::{CertRefusal, JobRefusal, Status};
 use job_programs::SourceFault;
 use job_report::JobFault;
-use remux_core::{CertRefusal, JobRefusal, Status};
 use std::io;
 use version_table::TableFault;
 

@@ -6,6 +6,8 @@ pub const HELP: &str = "remux: a statistical remultiplexer for MPEG-2 whose prom
   remux check JOB CERT    reads the same programs again, and checks the certificate in CERT
   remux plan TABLE CERT   plans the table of pictures in the file TABLE, writes a certificate of the
                           plan to CERT
+  remux check-plan TABLE CERT
+                          checks the certificate in CERT against the table of pictures in the file TABLE
   remux probe FILE PROGRAM TABLE
                           writes the table of pictures of the program with the program_number PROGRAM (1 to 65535)
                           of the transport stream FILE to TABLE, for slots of 4000 ticks

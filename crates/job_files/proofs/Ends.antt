@@ -1,10 +1,5 @@
 -- A fault of the shelf ends the reading of a job.
-use Rattle.std.proofs.Common.{◌≡◌, ℕ, List}
-use Rattle.shelf_io.specs.Counts.{ShelfCounts}
-use Rattle.job_programs.specs.declared.source_fault.ProgramsFault.{ProgramsFault}
-use Rattle.job_programs.specs.Told.{ReadsEnd}
-use Rattle.job_programs.specs.Told as programs
-use Rattle.job_programs.proofs.Ends.{ends_so}
+use Rattle.std.proofs.Common.{ℕ, List}
 use Rattle.job_files.specs.declared.job_stop.JobStop.{JobStop}
 use Rattle.job_files.specs.declared.job_stop.JobStop.TheVariants.{Text, Source, Unread, Missing, OutOfMemory}
 use Rattle.job_files.specs.Stops.{EndsMissing, EndsUnread}
@@ -25,9 +20,3 @@ missing_ends name OutOfMemory is = tt
 missing_ends name (Text refusal) is = absurd is
 missing_ends name (Source fault) is = absurd is
 missing_ends name (Unread file) is = absurd is
-
--- what ended the reading of the programs ends that of the job, in its words
-pub programs_end : {fails misses : Type 0} {found fault : ProgramsFault} (old new : ShelfCounts) (since : ℕ) → found ≡ fault
-    → (programs.EndsFailed fault → fails) → (programs.EndsMissing fault → misses)
-    → ReadsEnd (programs.EndsFailed found) (programs.EndsMissing found) old new since → ReadsEnd fails misses old new since
-programs_end old new since is fails misses ends = ends_so (λ f. fails (rw is at f)) (λ m. misses (rw is at m)) ends

@@ -1,6 +1,7 @@
 pub mod Asked
 pub mod Ends
+pub mod JobStopped
 pub mod OneJob
+pub mod OneStop
 pub mod Steps
-pub mod Streams
 pub mod Texts

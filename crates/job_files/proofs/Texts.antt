@@ -1,8 +1,6 @@
 -- What a job's file holds, from the bytes that were read of it.
-use Rattle.std.proofs.Common.{◌≡◌, ℕ, ◌+◌, ◌≤◌, List, length, take, Option, Some, None, Result, Ok, Err, IfOk, IfErr, refl, sym, subst, ap, inl, inr, ◌∙◌, min, arith}
-use Rattle.std.proofs.lemmas.List.{length-take, take_all}
-use Rattle.std.specs.Option.{IsSomeAnd}
-use Rattle.std.specs.FinMap.{get}
+use Rattle.std.proofs.Common.{◌≡◌, ℕ, ◌+◌, ◌≤◌, List, length, take, Option, Result, Ok, Err, IfOk, IfErr, sym, subst, inl, inr, arith}
+use Rattle.std.proofs.lemmas.List.{length-take}
 use Rattle.shelf_io.specs.Files.{Files, IfTold}
 use Rattle.job_report.specs.declared.limits.TheConstants.{JOB_TEXT_MOST}
 use Rattle.job_report.specs.declared.fault.JobFault.{JobFault}
@@ -10,18 +8,13 @@ use Rattle.job_report.specs.declared.fault.JobFault.TheVariants as faults
 use Rattle.job_report.specs.declared.job.Job.{Job}
 use Rattle.job_report.specs.JobText.{SpellsJob, IsNoDocument, IsRefusedDocument, IsRefusedFor, IsJobFaultOf}
 use Rattle.job_report.specs.Refusal.{FieldRefusal, OfField}
+use Rattle.command_words.proofs.Texts.{found_text, take_all_of}
 use Rattle.job_files.specs.declared.job_stop.JobStop.{JobStop}
 use Rattle.job_files.specs.declared.job_stop.JobStop.TheVariants.{Text, Source, Unread, Missing, OutOfMemory}
 use Rattle.job_files.specs.declared.job_stop.TextRefusal.{TextRefusal}
 use Rattle.job_files.specs.declared.job_stop.TextRefusal.TheVariants.{NoDocument, Field, Limit}
-use Rattle.job_files.specs.JobFile.{StandsApart, IsJobOfText, IsTextRefused, HoldsText, HoldsJob, HoldsRefused}
+use Rattle.job_files.specs.JobFile.{StandsApart, IsJobOfText, IsTextRefused, HoldsJob, HoldsRefused}
 use Rattle.job_files.specs.Private.Texts.{IsTextStop, IsSharedStop, stop_by}
-
--- a front of at most one byte past the limit is the whole text where it doesn't pass the limit
-pub take_all_of : (n : ℕ) (text front : List ℕ) → front ≡ take (n + 1) text → length front ≤ n → front ≡ text
-take_all_of n text front is short =
-    let size : length front ≡ min (n + 1) (length text) = ap length is ∙ length-take (n + 1) text in
-    is ∙ take_all (n + 1) text (omega arith)
 
 -- what the front spells, the text spells
 whole_job : (text front : List ℕ) (job : Job) → front ≡ take (JOB_TEXT_MOST + 1) text → SpellsJob front job → SpellsJob text job
@@ -43,17 +36,6 @@ whole_text text front named (Field name) is (inl refused) = inl (whole_refused t
 whole_text text front named (Field name) is (inr shares) =
     inr (record { job = shares.job; spells = whole_job text front shares.job is shares.spells; first = shares.first })
 whole_text text front named (Limit name) is refused = whole_refused text front _ is refused
-
--- what was read of a file is the front of what it holds
-pub found_text : (told : Option Files) (name front : List ℕ) (n : ℕ) → length front ≤ n → IfTold told name (λ content. front ≡ take n content)
-    → (text : List ℕ) × HoldsText told name text × (front ≡ take n text)
-found_text None name front n short found = (front, tt, sym (take_all n front short))
-found_text (Some files) name front n short found =
-    elim (get files name) as (λ got. get files name ≡ got → IsSomeAnd got (λ content. front ≡ take n content)
-    → (text : List ℕ) × (get files name ≡ Some text) × (front ≡ take n text)) [
-      | None ↦ λ e none. absurd none
-      | Some text ↦ λ e same. (text, e, same)
-    ] refl found
 
 -- a job that was read
 pub holds_job : (told : Option Files) (name front : List ℕ) (named : List (List ℕ)) (job : Job) → length front ≤ JOB_TEXT_MOST + 1

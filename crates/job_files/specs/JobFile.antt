@@ -1,11 +1,11 @@
 -- The job that a file holds, where a command names some files itself, and how its text is refused.
-use Rattle.std.specs.Prelude.{◌≡◌, ◌⊎◌, ℕ, List, Option, Some, None, IfSome}
-use Rattle.std.specs.FinMap.{get}
+use Rattle.std.specs.Prelude.{◌≡◌, ◌⊎◌, ℕ, List, Option, Some, None}
 use Rattle.shelf_io.specs.Files.{Files}
 use Rattle.job_report.specs.declared.job.Job.{Job}
 use Rattle.job_report.specs.JobText.{SpellsJob, IsNoDocument, IsRefusedFor}
 use Rattle.job_report.specs.Refusal.{OfField, OfLimit, first_refusal}
 use Rattle.job_report.specs.SharedFile.{refusals_of_files}
+use Rattle.command_words.specs.Held.{HoldsText}
 use Rattle.job_files.specs.declared.job_stop.TextRefusal.{TextRefusal}
 use Rattle.job_files.specs.declared.job_stop.TextRefusal.TheVariants.{NoDocument, Field, Limit}
 
@@ -29,10 +29,6 @@ abbrev pub IsTextRefused : (text : List ℕ) → (named : List (List ℕ)) → T
 IsTextRefused text named NoDocument = IsNoDocument text
 IsTextRefused text named (Field name) = IsRefusedFor text (OfField name.bytes) ⊎ SharesFile text named name.bytes
 IsTextRefused text named (Limit name) = IsRefusedFor text (OfLimit name.bytes)
-
--- where files are told, a file holds this text
-abbrev pub HoldsText : Option Files → (name text : List ℕ) → Type 0
-HoldsText told name text = IfSome told (λ files. get files name ≡ Some text)
 
 -- a file holds the text of this job
 pub record HoldsJob (told : Option Files) (name : List ℕ) (named : List (List ℕ)) (job : Job) : Type 0 where

@@ -1,6 +1,6 @@
+pub mod JobCalls
 pub mod JobFile
 pub mod JobTable
 pub mod Private
 pub mod Same
 pub mod Stops
-pub mod Written

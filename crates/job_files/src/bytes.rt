@@ -5,7 +5,7 @@ use program_reader::Program;
 use version_source::laws::see_bytes;
 
 /// The videos of programs are bytes.
-pub(crate) fn see_videos(programs: &[Program])
+pub fn see_videos(programs: &[Program])
     ensures { All (λ program. AreBytes program.video) programs.now }
 {
     for program in programs {

@@ -4,8 +4,11 @@ ghost use Rattle.std.specs.Prelude.{◌≡◌, ℕ, List, Some, None};
 ghost use Rattle.std.specs.FinMap.{get};
 ghost use Rattle.shelf_io.specs.Files.{Files};
 ghost use Rattle.job_programs.specs.declared.source_fault.SourceFault.{SourceFault};
+ghost use Rattle.command_words.specs.declared.status.Status.{Status as AnyStatus};
+ghost use Rattle.command_words.specs.Status.{IsSameStatus};
 ghost use Rattle.job_files.specs.declared.job_stop.TextRefusal.{TextRefusal};
 ghost use Rattle.job_files.specs.declared.job_table.JobTable.{JobTable};
+ghost use Rattle.job_files.specs.JobCalls.{JobCallsFor};
 ghost use Rattle.job_files.specs.JobFile.{HoldsRefused};
 ghost use Rattle.job_files.specs.JobTable.{IsJobTable};
 ghost use Rattle.job_files.specs.Same.{IsSameText};
@@ -40,4 +43,16 @@ pub fn jobs_have_one_answer()
 {
     files_have_one_answer();
     one_table();
+}
+
+/// On told files a job has one table, or calls for one status before there is one, and never both.
+pub fn job_calls_for_one()
+    ensures table { (files : Files) (name : List ℕ) (named : List (List ℕ)) (one other : JobTable) →
+        IsJobTable (Some files) name named one → IsJobTable (Some files) name named other → one ≡ other }
+    ensures stop { (files : Files) (name : List ℕ) (named : List (List ℕ)) (status other : AnyStatus) →
+        JobCallsFor (Some files) name named status → JobCallsFor (Some files) name named other → IsSameStatus status other }
+    ensures never_both { (files : Files) (name : List ℕ) (named : List (List ℕ)) (made : JobTable) (status : AnyStatus) →
+        IsJobTable (Some files) name named made → JobCallsFor (Some files) name named status → ⊥ }
+{
+    jobs_have_one_answer();
 }

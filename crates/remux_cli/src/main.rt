@@ -4,8 +4,8 @@
 #![tactic(auto)]
 
 use command_line::{command, share_one_file};
+use command_words::Status;
 use help_text::{HELP, VERSION, told};
-use remux_core::Status;
 use std::process::ExitCode;
 use std::rt::{Env, Files};
 use std::{env, io};

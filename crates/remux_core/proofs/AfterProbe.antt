@@ -1,15 +1,15 @@
 -- What `probe` leaves, `plan` reads.
-use Rattle.std.proofs.Common.{◌≡◌, ℕ, List, Some, ◌∙◌}
+use Rattle.std.proofs.Common.{ℕ, List, Some, ◌∙◌}
 use Rattle.shelf_io.specs.Files.{Files}
 use Rattle.program_reader.specs.declared.program.Program.{Program}
 use Rattle.version_table.specs.declared.table.Table.{Table}
 use Rattle.version_table.specs.Text.{Holds, IsTableRead, IsTextTable, table_spelling}
-use Rattle.remux_core.specs.declared.status.JobRefusal.{JobRefusal}
-use Rattle.remux_core.specs.declared.status.Status.TheVariants.{JobRefused}
-use Rattle.remux_core.specs.PlanCommand.{HoldsTable, PlanCallsFor}
-use Rattle.remux_core.specs.ProbeCommand.{HoldsProbed, IsProbedTable, ProbeDone}
-use Rattle.remux_core.proofs.Answered.{get_own, stays}
-use Rattle.remux_core.proofs.One.{OneReading, table_or_refusal}
+use Rattle.command_words.specs.declared.status.JobRefusal.{JobRefusal}
+use Rattle.command_words.specs.declared.status.Status.TheVariants.{JobRefused}
+use Rattle.plan_command.specs.PlanCommand.{HoldsTable, PlanCallsFor}
+use Rattle.probe_command.specs.ProbeCommand.{HoldsProbed, IsProbedTable, ProbeDone}
+use Rattle.command_words.proofs.Contents.{get_own, stays}
+use Rattle.plan_command.proofs.OneStatus.{OneReading, table_or_refusal}
 
 -- the law that the spelling of a table is read as that table
 abbrev pub SpellingIsRead : Type 0

@@ -11,11 +11,11 @@ use Rattle.job_report.specs.Refusal.{OfField, first_refusal, place_of_program}
 use Rattle.job_report.specs.SharedFile.{refusals_of_files}
 use Rattle.job_files.specs.JobTable.{IsJobTable}
 use Rattle.shelf_io.specs.Files.{Files}
-use Rattle.remux_core.specs.declared.status.Status.TheVariants.{Ok}
-use Rattle.remux_core.specs.CheckCommand.{CheckCallsFor}
-use Rattle.remux_core.specs.Command.{IsRunCommand, files_of_check}
-use Rattle.remux_core.specs.RunCommand.{RunDone}
-use Rattle.remux_core.proofs.Answered.{get_own, get_other, stays}
+use Rattle.command_words.specs.declared.status.Status.TheVariants.{Ok}
+use Rattle.check_command.specs.CheckCommand.{CheckCallsFor, files_of_check}
+use Rattle.command_words.specs.Command.{IsRunCommand}
+use Rattle.run_command.specs.RunCommand.{RunDone}
+use Rattle.command_words.proofs.Contents.{get_own, get_other, stays}
 
 -- whether a file is one of these three
 abbrev is_one : (file a b c : List ℕ) → Bool

@@ -1,34 +1,36 @@
 -- What follows of a run's outcome.
-use Rattle.std.proofs.Common.{◌≡◌, ◌⊎◌, ◌≤◌, ℕ, List, Option, Some, None, Bool, true, false, cond, refl, sym, ap, subst, ◌∙◌, inl, inr}
-use Rattle.std.specs.Ordering.{nat_cmp, eq_by_cmp}
-use Rattle.std.specs.Cmp.{Equal-is, eq_by_cmp_equiv}
-use Rattle.std.specs.Cmp.Lexicographic.{slice_cmp, nat_list_cmp_total}
-use Rattle.std.specs.FinMap.{get, insert, get-insert, slice_cmp-IsAntisymmetric, nat_cmp-IsAntisymmetric}
+use Rattle.std.proofs.Common.{◌≡◌, ◌⊎◌, ◌≤◌, ℕ, List, Option, Some, None, refl, sym, subst, ◌∙◌, inl, inr}
+use Rattle.std.specs.FinMap.{insert}
 use Rattle.shelf_io.specs.Files.{Files}
-use Rattle.remux_core.specs.declared.status.Status.{Status}
-use Rattle.remux_core.specs.declared.status.Status.TheVariants as statuses
-use Rattle.remux_core.specs.Answer.{Answer, CallsFor, IsDone, LeavesFiles, EndsWithStatus, Decides, HasCause, AnswerHasCause}
-use Rattle.remux_core.specs.Command.{Command, Plan, Gen, Run, Check, Probe, IsCommand, IsSaid}
+use Rattle.command_words.specs.declared.status.Status.{Status}
+use Rattle.command_words.specs.declared.status.Status.TheVariants as statuses
+use Rattle.command_words.specs.Answer.{Answer, EndsWithStatus, Decides, HasCause, AnswerHasCause}
+use Rattle.command_words.specs.Command.{Command, Plan, Gen, Run, Check, Probe, CheckPlan, IsCommand, IsSaid}
+use Rattle.command_words.specs.Outside.{ShelfFacts, SinkFacts, OnFiles}
+use Rattle.command_words.specs.Status.{IsSameStatus}
+use Rattle.command_words.specs.Task.{OthersStay, no_task}
+use Rattle.command_words.proofs.Contents.{get_other, stays}
+use Rattle.command_words.proofs.OneCommand.{one_command}
+use Rattle.command_words.proofs.Told.{on_then, on_told}
 use Rattle.remux_core.specs.Outcome.{Outcome, BreaksOff, IsReported, WordsCallFor}
-use Rattle.remux_core.specs.Outside.{ShelfFacts, SinkFacts, OnFiles}
-use Rattle.remux_core.specs.Private.Ended.{Performs}
-use Rattle.remux_core.specs.Promises.{OthersStay, NoneFailed}
-use Rattle.remux_core.specs.Status.{IsSameStatus}
-use Rattle.remux_core.proofs.One.{Laws, one_command, calls_for_one}
-use Rattle.remux_core.proofs.Told.{on_then, on_told}
+use Rattle.remux_core.specs.Private.Performed.{PerformsWords}
+use Rattle.remux_core.specs.Promises.{NoneFailed}
+use Rattle.remux_core.specs.Tasks.{task_of}
+use Rattle.remux_core.proofs.One.{Laws, calls_for_one}
 
 -- a plan was made where the smallest choice is scheduled, a program wherever it was asked for, a table where a file holds a program
-done_is_called_for : (command : Option Command) (files after : Files) (line : List ℕ) → IsDone command files line after → CallsFor command (Some files) statuses.Ok
+done_is_called_for : (command : Option Command) (files after : Files) (line : List ℕ) → (task_of command).is_done files line after → (task_of command).calls_for (Some files) statuses.Ok
 done_is_called_for (Some (Plan table certificate)) files after line (plan, has, said, written) = (has.table, has.holds, has.is_plan.possible)
 done_is_called_for (Some (Gen seed pictures out)) files after line done = tt
 done_is_called_for (Some (Run job out certificate)) files after line (work, is, said, written) = (work.made, is.made, is.is_plan.possible)
 done_is_called_for (Some (Check job certificate)) files after line (made, cert, is, said, same) = (made, cert, is.holds, is.faultless)
 done_is_called_for (Some (Probe file number table)) files after line (program, made, has, said, written) = (program, has.holds)
+done_is_called_for (Some (CheckPlan table certificate)) files after line (made, cert, is, said, same) = (made, cert, is.table_is, is.cert_is, is.faultless)
 done_is_called_for None files after line done = absurd done
 
 -- where nothing failed, a command ends as it is called for
 answer_is_called_for : (command : Option Command) (files after : Files) (old new : ShelfFacts) (out_old out_new : SinkFacts) (status : Status) (line : List ℕ)
-    → EndsWithStatus command files status line after → HasCause command old new status line → NoneFailed old new out_old out_new → CallsFor command (Some files) status
+    → EndsWithStatus (task_of command) files status line after → HasCause (task_of command) old new status line → NoneFailed old new out_old out_new → (task_of command).calls_for (Some files) status
 answer_is_called_for command files after old new out_old out_new statuses.Ok line ends cause none = done_is_called_for command files after line ends
 answer_is_called_for command files after old new out_old out_new statuses.Usage line ends cause none = ends.0
 answer_is_called_for command files after old new out_old out_new (statuses.JobRefused refusal) line ends cause none = ends.0
@@ -36,10 +38,8 @@ answer_is_called_for command files after old new out_old out_new (statuses.Unsch
 answer_is_called_for command files after old new out_old out_new (statuses.SourceRefused fault) line ends cause none = ends.0
 answer_is_called_for command files after old new out_old out_new (statuses.CertRefused refusal) line ends cause none = ends.0
 answer_is_called_for command files after old new out_old out_new statuses.Missing line ends cause none = ends.0
-answer_is_called_for (Some command) files after old new out_old out_new statuses.ReadFault line ends cause none = absurd (none.faults cause.rises)
-answer_is_called_for None files after old new out_old out_new statuses.ReadFault line ends cause none = absurd cause
-answer_is_called_for (Some command) files after old new out_old out_new statuses.WriteFault line ends cause none = absurd (none.write_faults cause.rises)
-answer_is_called_for None files after old new out_old out_new statuses.WriteFault line ends cause none = absurd cause
+answer_is_called_for command files after old new out_old out_new statuses.ReadFault line ends cause none = absurd (none.faults cause.rises)
+answer_is_called_for command files after old new out_old out_new statuses.WriteFault line ends cause none = absurd (none.write_faults cause.rises)
 answer_is_called_for command files after old new out_old out_new statuses.OutOfMemory line ends cause none = absurd ends
 
 -- a report that broke off is a write fault or want of memory
@@ -71,7 +71,7 @@ quiet_break answer old new out_old out_new statuses.Missing breaks none = absurd
 
 -- where nothing failed, the run ends as its words and files call for, or for want of memory
 reported_as_called : Laws → (command : Option Command) (files after : Files) (old new : ShelfFacts) (out_old out_new : SinkFacts) (answer : Option Answer) (result status : Status)
-    → Decides command files answer after → AnswerHasCause command old new answer → IsReported answer out_old out_new result → CallsFor command (Some files) status
+    → Decides (task_of command) files answer after → AnswerHasCause (task_of command) old new answer → IsReported answer out_old out_new result → (task_of command).calls_for (Some files) status
     → NoneFailed old new out_old out_new → IsSameStatus result status ⊎ (result ≡ statuses.OutOfMemory)
 reported_as_called laws command files after old new out_old out_new None result status decided cause reported called none = inr reported.0
 reported_as_called laws command files after old new out_old out_new (Some answer) result status decided cause (inr breaks) called none =
@@ -86,30 +86,40 @@ pub as_called : Laws → (words : List (List ℕ)) (files : Files) (old new : Sh
     → IsSameStatus result status ⊎ (result ≡ statuses.OutOfMemory)
 as_called laws words files old new out_old out_new result status outcome told calls none =
     let same : calls.command ≡ outcome.command = one_command words calls.command outcome.command calls.said outcome.said in
-    let decides = on_told old.files new.files files (λ held after. Decides outcome.command held outcome.answer after) outcome.decided told in
+    let decides = on_told old.files new.files files (λ held after. Decides (task_of outcome.command) held outcome.answer after) outcome.decided told in
     reported_as_called laws outcome.command files decides.0 old new out_old out_new outcome.answer result status decides.1 outcome.cause outcome.reported
-    (subst (λ (c : Option Command). CallsFor c (Some files) status) same calls.called) none
+    (subst (λ (c : Option Command). (task_of c).calls_for (Some files) status) same calls.called) none
 
 -- words of no command end with Usage
-none_ends : (old new : ShelfFacts) (status : Status) (line : List ℕ) → HasCause None old new status line → status ≡ statuses.Usage
+none_ends : (old new : ShelfFacts) (status : Status) (line : List ℕ) → HasCause no_task old new status line → status ≡ statuses.Usage
 none_ends old new statuses.Usage line cause = refl
 none_ends old new statuses.Ok line cause = absurd cause
-none_ends old new (statuses.JobRefused refusal) line cause = absurd cause
-none_ends old new (statuses.Unschedulable miss) line cause = absurd cause
-none_ends old new (statuses.SourceRefused fault) line cause = absurd cause
-none_ends old new (statuses.CertRefused refusal) line cause = absurd cause
-none_ends old new statuses.ReadFault line cause = absurd cause
-none_ends old new statuses.WriteFault line cause = absurd cause
-none_ends old new statuses.Missing line cause = absurd cause
+none_ends old new (statuses.JobRefused refusal) line cause = absurd cause.may
+none_ends old new (statuses.Unschedulable miss) line cause = absurd cause.may
+none_ends old new (statuses.SourceRefused fault) line cause = absurd cause.may
+none_ends old new (statuses.CertRefused refusal) line cause = absurd cause.may
+none_ends old new statuses.ReadFault line cause = absurd cause.asked.1
+none_ends old new statuses.WriteFault line cause = absurd cause.asked
+none_ends old new statuses.Missing line cause = absurd cause.asked.0.1
 none_ends old new statuses.OutOfMemory line cause = absurd cause
+
+-- and no command ends with it
+command_ends : (command : Command) (old new : ShelfFacts) (line : List ℕ) → HasCause (task_of (Some command)) old new statuses.Usage line → ⊥
+command_ends (Plan table certificate) old new line cause = cause.1
+command_ends (Gen seed pictures out) old new line cause = cause.1
+command_ends (Run job out certificate) old new line cause = cause.1
+command_ends (Check job certificate) old new line cause = cause.1
+command_ends (Probe file number table) old new line cause = cause.1
+command_ends (CheckPlan table certificate) old new line cause = cause.1
 
 -- Usage comes for words of no command alone
 usage_of : (words : List (List ℕ)) (old new : ShelfFacts) (out_old out_new : SinkFacts) (command : Option Command) (answer : Option Answer) (result : Status)
-    → IsSaid words command → AnswerHasCause command old new answer → IsReported answer out_old out_new result → result ≡ statuses.Usage → IsCommand words → ⊥
+    → IsSaid words command → AnswerHasCause (task_of command) old new answer → IsReported answer out_old out_new result → result ≡ statuses.Usage → IsCommand words → ⊥
 usage_of words old new out_old out_new None answer result said cause reported is command = said command
 usage_of words old new out_old out_new (Some said_command) None result said cause reported is command = let wanted = reported.0 in cc
 usage_of words old new out_old out_new (Some said_command) (Some answer) result said cause (inl whole) is command =
-    subst (λ (s : Status). HasCause (Some said_command) old new s answer.line) (sym whole.same_status ∙ is) cause
+    command_ends said_command old new answer.line
+    (subst (λ (s : Status). HasCause (task_of (Some said_command)) old new s answer.line) (sym whole.same_status ∙ is) cause)
 usage_of words old new out_old out_new (Some said_command) (Some answer) result said cause (inr breaks) is command =
     elim (break_is answer out_old out_new result breaks) [ inl e ↦ cc | inr e ↦ cc ]
 
@@ -120,7 +130,7 @@ usage_only words old new out_old out_new result outcome is command =
 
 -- and for each of them, but for a report that breaks off and want of memory
 no_command_of : (words : List (List ℕ)) (old new : ShelfFacts) (out_old out_new : SinkFacts) (command : Option Command) (answer : Option Answer) (result : Status)
-    → IsSaid words command → AnswerHasCause command old new answer → IsReported answer out_old out_new result → (IsCommand words → ⊥)
+    → IsSaid words command → AnswerHasCause (task_of command) old new answer → IsReported answer out_old out_new result → (IsCommand words → ⊥)
     → (result ≡ statuses.Usage) ⊎ ((result ≡ statuses.WriteFault) ⊎ (result ≡ statuses.OutOfMemory))
 no_command_of words old new out_old out_new (Some command) answer result said cause reported isnt = absurd (isnt (command, said))
 no_command_of words old new out_old out_new None None result said cause reported isnt = inr (inr reported.0)
@@ -133,25 +143,7 @@ pub no_command_ends : (words : List (List ℕ)) (old new : ShelfFacts) (out_old 
 no_command_ends words old new out_old out_new result outcome isnt =
     no_command_of words old new out_old out_new outcome.command outcome.answer result outcome.said outcome.cause outcome.reported isnt
 
--- a file that isn't the one that got a content is as it was
-pub get_other : (files : Files) (name content other : List ℕ) → (other ≡ name → ⊥) → get (insert files name content) other ≡ get files other
-get_other files name content other apart =
-    get-insert nat_list_cmp_total files name content other ∙ chosen (eq_by_cmp (slice_cmp nat_cmp) other name) refl
-  where
-    chosen : (b : Bool) → eq_by_cmp (slice_cmp nat_cmp) other name ≡ b → cond b (Some content) (get files other) ≡ get files other
-    chosen true e = absurd (apart (slice_cmp-IsAntisymmetric nat_cmp-IsAntisymmetric other name ((Equal-is _).0 e)))
-    chosen false e = refl
-
--- and that one has it
-pub get_own : (files : Files) (name content : List ℕ) → get (insert files name content) name ≡ Some content
-get_own files name content =
-    get-insert nat_list_cmp_total files name content name
-    ∙ ap (λ b. cond b (Some content) (get files name)) ((eq_by_cmp_equiv nat_list_cmp_total).refl name)
-
-pub stays : (files after : Files) (name : List ℕ) → after ≡ files → get after name ≡ get files name
-stays files after name same = ap (λ (f : Files). get f name) same
-
-done_leaves_others : (command : Option Command) (files after : Files) (line : List ℕ) → IsDone command files line after → OthersStay command files after
+done_leaves_others : (command : Option Command) (files after : Files) (line : List ℕ) → (task_of command).is_done files line after → OthersStay (task_of command) files after
 done_leaves_others None files after line done = absurd done
 done_leaves_others (Some (Plan table certificate)) files after line (plan, has, said, written) = λ name apart.
     stays _ after name written ∙ get_other files certificate _ name apart
@@ -160,11 +152,12 @@ done_leaves_others (Some (Gen seed pictures out)) files after line (program, is,
 done_leaves_others (Some (Run job out certificate)) files after line (work, is, said, written) = λ name apart.
     stays _ after name written ∙ get_other (insert files out work.stream) certificate _ name (λ same. apart (inr same))
     ∙ get_other files out _ name (λ same. apart (inl same))
+done_leaves_others (Some (CheckPlan table certificate)) files after line (made, cert, is, said, same) = λ name apart. stays files after name same
 done_leaves_others (Some (Check job certificate)) files after line (made, cert, is, said, same) = λ name apart. stays files after name same
 done_leaves_others (Some (Probe file number table)) files after line (program, made, has, said, written) = λ name apart.
     stays _ after name written ∙ get_other files table _ name apart
 
-leaves_others : (command : Option Command) (files after : Files) → LeavesFiles command files after → OthersStay command files after
+leaves_others : (command : Option Command) (files after : Files) → (task_of command).leaves files after → OthersStay (task_of command) files after
 leaves_others None files after same = λ name apart. stays files after name same
 leaves_others (Some (Plan table certificate)) files after (inl same) = λ name apart. stays files after name same
 leaves_others (Some (Plan table certificate)) files after (inr (plan, has, k, few, written)) = λ name apart.
@@ -178,12 +171,13 @@ leaves_others (Some (Run job out certificate)) files after (inr (work, is, inl (
 leaves_others (Some (Run job out certificate)) files after (inr (work, is, inr (k, few, written))) = λ name apart.
     stays _ after name written ∙ get_other (insert files out work.stream) certificate _ name (λ same. apart (inr same))
     ∙ get_other files out _ name (λ same. apart (inl same))
+leaves_others (Some (CheckPlan table certificate)) files after same = λ name apart. stays files after name same
 leaves_others (Some (Check job certificate)) files after same = λ name apart. stays files after name same
 leaves_others (Some (Probe file number table)) files after (inl same) = λ name apart. stays files after name same
 leaves_others (Some (Probe file number table)) files after (inr (program, made, has, k, few, written)) = λ name apart.
     stays _ after name written ∙ get_other files table _ name apart
 
-ends_leave_others : (command : Option Command) (files after : Files) (status : Status) (line : List ℕ) → EndsWithStatus command files status line after → OthersStay command files after
+ends_leave_others : (command : Option Command) (files after : Files) (status : Status) (line : List ℕ) → EndsWithStatus (task_of command) files status line after → OthersStay (task_of command) files after
 ends_leave_others command files after statuses.Ok line ends = done_leaves_others command files after line ends
 ends_leave_others command files after statuses.Usage line ends = λ name apart. stays files after name ends.1
 ends_leave_others command files after (statuses.JobRefused refusal) line ends = λ name apart. stays files after name ends.1
@@ -195,30 +189,30 @@ ends_leave_others command files after statuses.WriteFault line ends = leaves_oth
 ends_leave_others command files after statuses.Missing line ends = λ name apart. stays files after name ends.1
 ends_leave_others command files after statuses.OutOfMemory line ends = absurd ends
 
-decides_leaves_others : (command : Option Command) (files after : Files) (answer : Option Answer) → Decides command files answer after → OthersStay command files after
+decides_leaves_others : (command : Option Command) (files after : Files) (answer : Option Answer) → Decides (task_of command) files answer after → OthersStay (task_of command) files after
 decides_leaves_others command files after None decides = leaves_others command files after decides
 decides_leaves_others command files after (Some answer) decides = ends_leave_others command files after answer.status answer.line decides
 
 -- whatever a command decides, it leaves the files that it doesn't write
 others_stay : (command : Option Command) (old new : Option Files) (answer : Option Answer)
-    → OnFiles old new (λ files after. Decides command files answer after) → OnFiles old new (OthersStay command)
+    → OnFiles old new (λ files after. Decides (task_of command) files answer after) → OnFiles old new (OthersStay (task_of command))
 others_stay command old new answer decided =
-    on_then old new (λ files after. Decides command files answer after) (OthersStay command) decided (λ files after decides. decides_leaves_others command files after answer decides)
+    on_then old new (λ files after. Decides (task_of command) files answer after) (OthersStay (task_of command)) decided (λ files after decides. decides_leaves_others command files after answer decides)
 
 -- what was performed and reported is the outcome
-pub outcome_of : (words : List (List ℕ)) (old new : ShelfFacts) (out_old out_new : SinkFacts) (answer : Option Answer) (status : Status) → Performs words old new answer
+pub outcome_of : (words : List (List ℕ)) (old new : ShelfFacts) (out_old out_new : SinkFacts) (answer : Option Answer) (status : Status) → PerformsWords words old new answer
     → IsReported answer out_old out_new status → out_old.faults ≤ out_new.faults → Outcome words old new out_old out_new status
 outcome_of words old new out_old out_new answer status performs reported grows = record {
   command = performs.command;
   said = performs.said;
   answer = answer;
-  decided = performs.decided;
-  cause = performs.cause;
+  decided = performs.performs.decided;
+  cause = performs.performs.cause;
   reported = reported;
   promises = record {
-    counts = performs.counts;
+    counts = performs.performs.counts;
     out_faults = grows;
-    asks = performs.asks;
-    others = others_stay performs.command old.files new.files answer performs.decided;
+    asks = performs.performs.asks;
+    others = others_stay performs.command old.files new.files answer performs.performs.decided;
   };
 }

@@ -1,14 +1,4 @@
-pub mod Answer
-pub mod CheckCommand
-pub mod Command
-pub mod GenCommand
 pub mod Outcome
-pub mod Outside
-pub mod Plan
-pub mod PlanCommand
-pub mod ProbeCommand
-pub mod Promises
-pub mod Report
-pub mod RunCommand
-pub mod Status
 pub mod Private
+pub mod Promises
+pub mod Tasks

@@ -3,12 +3,13 @@ use Rattle.std.specs.Prelude.{◌≡◌, ℕ, ◌⊎◌, List, Option, Some, Non
 use Rattle.shelf_io.specs.Counts.{Rose}
 use Rattle.shelf_io.specs.Files.{Files}
 use Rattle.shelf_io.specs.Sink.{with_bytes, AddsPrefix}
-use Rattle.remux_core.specs.declared.status.Status.{Status}
-use Rattle.remux_core.specs.declared.status.Status.TheVariants.{WriteFault, OutOfMemory}
-use Rattle.remux_core.specs.Answer.{Answer, CallsFor, Decides, AnswerHasCause}
-use Rattle.remux_core.specs.Command.{Command, IsSaid}
-use Rattle.remux_core.specs.Outside.{ShelfFacts, SinkFacts, OnFiles}
+use Rattle.command_words.specs.declared.status.Status.{Status}
+use Rattle.command_words.specs.declared.status.Status.TheVariants.{WriteFault, OutOfMemory}
+use Rattle.command_words.specs.Answer.{Answer, Decides, AnswerHasCause}
+use Rattle.command_words.specs.Command.{Command, IsSaid}
+use Rattle.command_words.specs.Outside.{ShelfFacts, SinkFacts, OnFiles}
 use Rattle.remux_core.specs.Promises.{Promises}
+use Rattle.remux_core.specs.Tasks.{task_of}
 
 -- an answer was reported whole, and the run ends with its status
 pub record IsWholeFile (answer : Answer) (old new : SinkFacts) (status : Status) : Type 0 where
@@ -31,15 +32,15 @@ pub record Outcome (words : List (List ℕ)) (old new : ShelfFacts) (out_old out
   pub command : Option Command
   pub said : IsSaid words command
   pub answer : Option Answer
-  -- the answer is that of the command and the files, where they are told
-  pub decided : OnFiles old.files new.files (λ files after. Decides command files answer after)
+  -- the answer is that of the command's task and the files, where they are told
+  pub decided : OnFiles old.files new.files (λ files after. Decides (task_of command) files answer after)
   -- and has its cause
-  pub cause : AnswerHasCause command old new answer
+  pub cause : AnswerHasCause (task_of command) old new answer
   pub reported : IsReported answer out_old out_new status
-  pub promises : Promises command old new out_old out_new
+  pub promises : Promises (task_of command) old new out_old out_new
 
 -- words and files call for this status, whatever the outside does
 pub record WordsCallFor (words : List (List ℕ)) (files : Files) (status : Status) : Type 0 where
   pub command : Option Command
   pub said : IsSaid words command
-  pub called : CallsFor command (Some files) status
+  pub called : (task_of command).calls_for (Some files) status

@@ -1,7 +1,2 @@
--- What private functions and types of the crate stand on.
-pub mod Checked
-pub mod Ended
-pub mod Parsed
-pub mod Prepared
-pub mod Probed
-pub mod Stopped
+-- What private functions of the crate stand on.
+pub mod Performed

@@ -1,34 +1,17 @@
 -- What every command promises of the outside.
-use Rattle.std.specs.Prelude.{◌≡◌, ◌⊎◌, ℕ, ◌+◌, ◌<◌, ◌≤◌, List, Option, max}
-use Rattle.std.specs.FinMap.{get}
-use Rattle.shelf_io.specs.Counts.{Rose, ShelfCounts}
-use Rattle.shelf_io.specs.Files.{Files}
-use Rattle.remux_core.specs.declared.status.Status.{Status}
-use Rattle.remux_core.specs.declared.status.Status.TheVariants.{ReadFault, WriteFault, Missing, OutOfMemory}
-use Rattle.remux_core.specs.Command.{Command, ReadsFile, WritesFile}
-use Rattle.remux_core.specs.Outside.{ShelfFacts, SinkFacts, OnFiles}
-
--- no count of a shelf falls
-pub record CountsGrow (old new : ShelfCounts) : Type 0 where
-  pub faults_grow : old.faults ≤ new.faults
-  pub write_faults_grow : old.write_faults ≤ new.write_faults
-  pub absences_grow : old.absences ≤ new.absences
-
--- only files that a command reads were asked for bytes, each for none behind one byte past its limit
-pub record AsksOnly (command : Option Command) (told : Option Files) (old new : List ℕ → ℕ) : Type 0 where
-  pub within : (name : List ℕ) (limit : ℕ) → ReadsFile command told name limit → new name ≤ max (old name) (limit + 1)
-  pub others : (name : List ℕ) → ((limit : ℕ) → ReadsFile command told name limit → ⊥) → new name ≤ old name
-
--- every file but those that a command writes is as it was
-abbrev pub OthersStay : Option Command → (files after : Files) → Type 0
-OthersStay command files after = (name : List ℕ) → (WritesFile command name → ⊥) → get after name ≡ get files name
+use Rattle.std.specs.Prelude.{◌≡◌, ◌⊎◌, ◌<◌, ◌≤◌}
+use Rattle.shelf_io.specs.Counts.{Rose}
+use Rattle.command_words.specs.declared.status.Status.{Status}
+use Rattle.command_words.specs.declared.status.Status.TheVariants.{ReadFault, WriteFault, Missing, OutOfMemory}
+use Rattle.command_words.specs.Outside.{CountsGrow, ShelfFacts, SinkFacts, OnFiles}
+use Rattle.command_words.specs.Task.{AsksOnly, OthersStay, Task}
 
 -- no count falls, nothing is read past its limit, and every file that isn't written stays
-pub record Promises (command : Option Command) (old new : ShelfFacts) (out_old out_new : SinkFacts) : Type 0 where
+pub record Promises (task : Task) (old new : ShelfFacts) (out_old out_new : SinkFacts) : Type 0 where
   pub counts : CountsGrow old.counts new.counts
   pub out_faults : out_old.faults ≤ out_new.faults
-  pub asks : AsksOnly command old.files old.asked new.asked
-  pub others : OnFiles old.files new.files (OthersStay command)
+  pub asks : AsksOnly task old.files old.asked new.asked
+  pub others : OnFiles old.files new.files (OthersStay task)
 
 -- no call of the outside failed, as far as counts tell
 pub record NoneFailed (old new : ShelfFacts) (out_old out_new : SinkFacts) : Type 0 where

@@ -4,45 +4,52 @@ ghost use Rattle.std.specs.Prelude.{◌≡◌, ◌⊎◌, List, ℕ, Option, Som
 ghost use Rattle.std.specs.String.{string_bytes};
 ghost use Rattle.shelf_io.specs.Files.{Files};
 ghost use Rattle.program_reader.specs.declared.program.Program.{Program};
-ghost use Rattle.remux_core.specs.declared.status.JobRefusal.{JobRefusal};
 ghost use Rattle.version_table.specs.declared.table.Table.{Table};
 ghost use Rattle.version_table.specs.Choice.{IsSmallestChoice};
 ghost use Rattle.slot_rule.specs.Schedule.{IsScheduled};
-ghost use Rattle.remux_core.specs.declared.status.Status.{Status as AnyStatus};
-ghost use Rattle.remux_core.specs.Answer.{HasCause};
-ghost use Rattle.remux_core.specs.CheckCommand.{CheckCallsFor};
-ghost use Rattle.remux_core.specs.Command.{IsPlanCommand, IsGenCommand, IsProbeCommand, IsRunCommand, Command as AnyCommand};
+ghost use Rattle.command_words.specs.declared.status.JobRefusal.{JobRefusal};
+ghost use Rattle.command_words.specs.declared.status.Status.{Status as AnyStatus};
+ghost use Rattle.command_words.specs.Answer.{HasCause};
+ghost use Rattle.command_words.specs.Command.{IsPlanCommand, IsGenCommand, IsProbeCommand, IsRunCommand, Command as AnyCommand};
+ghost use Rattle.command_words.specs.Outside.{ShelfFacts};
+ghost use Rattle.command_words.specs.Status.{IsSameStatus, TellsStatus};
+ghost use Rattle.check_command.specs.CheckCommand.{CheckCallsFor};
+ghost use Rattle.check_plan_command.specs.CheckPlanCommand.{CheckPlanCallsFor};
+ghost use Rattle.plan_command.specs.PlanCommand.{HoldsTable, PlanCallsFor, PlanDone};
+ghost use Rattle.probe_command.specs.ProbeCommand.{HoldsProbed, IsProbedTable, ProbeDone};
+ghost use Rattle.run_command.specs.RunCommand.{RunDone};
 ghost use Rattle.remux_core.specs.Outcome.{WordsCallFor};
-ghost use Rattle.remux_core.specs.Outside.{ShelfFacts};
-ghost use Rattle.remux_core.specs.PlanCommand.{HoldsTable, PlanCallsFor};
-ghost use Rattle.remux_core.specs.ProbeCommand.{HoldsProbed, IsProbedTable, ProbeDone};
-ghost use Rattle.remux_core.specs.RunCommand.{RunDone};
-ghost use Rattle.remux_core.specs.Status.{IsSameStatus, TellsStatus};
+ghost use Rattle.remux_core.specs.Tasks.{task_of};
 
-use crate::jobs_call::jobs_call_for_one;
-use crate::status::Status;
 use crate::top_call::run;
+use check_command::laws::check_calls_for_one;
+use check_plan_command::laws::check_plan_calls_for_one;
+use command_words::Status;
+use gen_command::laws::gen_calls_for_one;
+use plan_command::laws::plan_calls_for_one;
+use probe_command::laws::probe_calls_for_one;
+use run_command::laws::run_calls_for_one;
 use shelf_io::VecSink;
 use shelf_kinds::CalmShelf;
-use slot_rule::{first_miss_is_one, no_miss_where_scheduled};
 use std::alloc::Global;
-use version_table::{one_reading, smallest_choice_is_one, spelling_is_read};
+use version_table::{one_reading, spelling_is_read};
 
 /// Words and files call for one status.
 pub fn one_status_is_called_for()
     ensures { (words : List (List ℕ)) (files : Files) (status other : AnyStatus) → WordsCallFor words files status
         → WordsCallFor words files other → IsSameStatus status other }
 {
-    one_reading();
-    smallest_choice_is_one();
-    no_miss_where_scheduled();
-    first_miss_is_one();
-    jobs_call_for_one();
+    plan_calls_for_one();
+    gen_calls_for_one();
+    run_calls_for_one();
+    check_calls_for_one();
+    probe_calls_for_one();
+    check_plan_calls_for_one();
 }
 
 /// The line of each status but that of work that was done tells the exit status.
 pub fn lines_tell_their_status()
-    ensures { (command : Option AnyCommand) (old new : ShelfFacts) (status : AnyStatus) (line : List ℕ) → HasCause command old new status line
+    ensures { (command : Option AnyCommand) (old new : ShelfFacts) (status : AnyStatus) (line : List ℕ) → HasCause (task_of command) old new status line
         → (status ≡ Status.Ok → ⊥) → TellsStatus status line }
 {}
 
@@ -50,6 +57,12 @@ pub fn lines_tell_their_status()
 pub fn check_accepts_runs()
     ensures { (words : List (List ℕ)) (job out certificate : List ℕ) (files after : Files) (line : List ℕ) → IsRunCommand words job out certificate
         → RunDone job out certificate files line after → CheckCallsFor job certificate (Some after) Status.Ok }
+{}
+
+/// What `plan` leaves, `check-plan` accepts: the files after the work of `plan TABLE CERT` call for status 0 of `check-plan TABLE CERT`.
+pub fn check_plan_accepts_plans()
+    ensures { (words : List (List ℕ)) (table certificate : List ℕ) (files after : Files) (line : List ℕ) → IsPlanCommand words table certificate
+        → PlanDone table certificate files line after → CheckPlanCallsFor table certificate (Some after) Status.Ok }
 {}
 
 /// What `probe` leaves in TABLE, `plan` reads: it is the text of the program's table, and no status 3 is called for.

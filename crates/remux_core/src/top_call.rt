@@ -1,36 +1,40 @@
 ghost use Rattle.std.specs.Prelude.{◌≡◌, ◌⊎◌, map, Some};
 ghost use Rattle.std.specs.String.{string_bytes};
 ghost use Rattle.shelf_io.specs.Files.{Files};
-ghost use Rattle.remux_core.specs.declared.status.Status.{Status as AnyStatus};
-ghost use Rattle.remux_core.specs.Command.{IsCommand};
+ghost use Rattle.command_words.specs.declared.status.Status.{Status as AnyStatus};
+ghost use Rattle.command_words.specs.Command.{IsCommand};
+ghost use Rattle.command_words.specs.Ended.{answer_of};
+ghost use Rattle.command_words.specs.Outside.{shelf_facts, sink_facts};
+ghost use Rattle.command_words.specs.Status.{IsSameStatus};
 ghost use Rattle.remux_core.specs.Outcome.{Outcome, WordsCallFor};
-ghost use Rattle.remux_core.specs.Outside.{shelf_facts, sink_facts};
-ghost use Rattle.remux_core.specs.Private.Ended.{answer_of, Performs};
+ghost use Rattle.remux_core.specs.Private.Performed.{PerformsWords};
 ghost use Rattle.remux_core.specs.Promises.{FaultsEnd, NoneFailed};
-ghost use Rattle.remux_core.specs.Status.{IsSameStatus};
 
-use crate::check_command::check_job;
-use crate::command::{Parsed, parse};
-use crate::ended::{Ended, end_with};
-use crate::gen_command::gen_file;
-use crate::jobs_call::jobs_call_for_one;
-use crate::plan_command::plan_file;
-use crate::probe_command::probe_file;
-use crate::run_command::run_job;
-use crate::status::Status;
+use check_command::check_job;
+use check_command::laws::check_calls_for_one;
+use check_plan_command::check_plan;
+use check_plan_command::laws::check_plan_calls_for_one;
+use command_words::{Ended, Parsed, Status, end_with, parse};
+use gen_command::gen_file;
+use gen_command::laws::gen_calls_for_one;
 use job_report::Report;
+use plan_command::laws::plan_calls_for_one;
+use plan_command::plan_file;
+use probe_command::laws::probe_calls_for_one;
+use probe_command::probe_file;
+use run_command::laws::run_calls_for_one;
+use run_command::run_job;
 use shelf_io::{Fault, Shelf, Sink, put_all};
-use slot_rule::{first_miss_is_one, no_miss_where_scheduled};
 use std::alloc::Global;
-use version_table::{one_reading, smallest_choice_is_one};
 
 /// Runs a command: words, a shelf of files, and a sink for the report line.
 ///
 /// The words `plan TABLE CERT` plan the table text in the file TABLE and write the certificate of the plan to CERT. The words
 /// `gen SEED PICTURES OUT` write the generated program of a seed with so many pictures to OUT. `run JOB OUT CERT` plan the
 /// programs of the job in JOB, write their stream to OUT and the certificate of the plan to CERT. `check JOB CERT` read the same
-/// programs and check the certificate in CERT. `probe FILE PROGRAM TABLE` write the table of one program of FILE to TABLE. All other
-/// words are a usage fault. One line of JSON goes to `out` for each status but want of memory.
+/// programs and check the certificate in CERT. `probe FILE PROGRAM TABLE` write the table of one program of FILE to TABLE.
+/// `check-plan TABLE CERT` check the certificate in CERT for the table in TABLE. All other words are a usage fault. One line of JSON
+/// goes to `out` for each status but want of memory.
 pub fn run<K: Shelf, O: Sink>(alloc: Global, words: &[String], shelf: &mut K, out: &mut O) -> Status
     // What the words and files decide, what failed outside, how it is reported, and what every command promises.
     ensures outcome { Outcome (map string_bytes words.now)
@@ -63,12 +67,13 @@ pub fn run<K: Shelf, O: Sink>(alloc: Global, words: &[String], shelf: &mut K, ou
     ensures no_command { (IsCommand (map string_bytes words.now) → ⊥)
         → (result ≡ Status.Usage) ⊎ ((result ≡ Status.WriteFault) ⊎ (result ≡ Status.OutOfMemory)) }
 {
-    // Laws that the clauses stand on: a text has one reading, a table one smallest choice, and a choice is scheduled or has one first miss.
-    one_reading();
-    smallest_choice_is_one();
-    no_miss_where_scheduled();
-    first_miss_is_one();
-    jobs_call_for_one();
+    // Laws that the clauses stand on: each command is called for one status.
+    plan_calls_for_one();
+    gen_calls_for_one();
+    run_calls_for_one();
+    check_calls_for_one();
+    probe_calls_for_one();
+    check_plan_calls_for_one();
     let Some(ended) = perform(alloc, words, shelf) else {
         return Status::OutOfMemory;
     };
@@ -82,7 +87,7 @@ pub fn run<K: Shelf, O: Sink>(alloc: Global, words: &[String], shelf: &mut K, ou
 
 /// Does the work of a command; none for want of memory.
 fn perform<K: Shelf>(alloc: Global, words: &[String], shelf: &mut K) -> Option<Ended>
-    ensures { Performs (map string_bytes words.now)
+    ensures { PerformsWords (map string_bytes words.now)
         (shelf_facts K.files K.counts K.asked K.since_fault shelf.old)
         (shelf_facts K.files K.counts K.asked K.since_fault shelf.new)
         (answer_of result) }
@@ -93,6 +98,7 @@ fn perform<K: Shelf>(alloc: Global, words: &[String], shelf: &mut K) -> Option<E
         Some(Parsed::Run(files)) => run_job(alloc, &files, shelf),
         Some(Parsed::Check(files)) => check_job(alloc, &files, shelf),
         Some(Parsed::Probe(words)) => probe_file(alloc, &words, shelf),
+        Some(Parsed::CheckPlan(files)) => check_plan(alloc, &files, shelf),
         None => end_with(alloc, Status::Usage, &Report::Usage),
     }
 }

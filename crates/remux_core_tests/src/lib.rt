@@ -12,6 +12,8 @@ mod generated;
 #[cfg(test)]
 mod jobs;
 #[cfg(test)]
+mod plan_checks;
+#[cfg(test)]
 mod plans;
 #[cfg(test)]
 mod probes;

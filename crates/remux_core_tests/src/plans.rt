@@ -66,9 +66,9 @@ const EXAMPLES: [(&str, u8, &str); 11] = [
     ),
 ];
 
-/// The front of a certificate: its mark, version 2, bound 10, distortion 10, one unit in version 1, and one node of windows.
+/// The front of a certificate: its mark, version 3, bound 10, distortion 10, one unit in version 1, and one node of windows.
 const CERTIFICATE_FRONT: [u8; 31] = [
-    0x52, 0x4D, 0x58, 0x43, 2, 0, 0, 0, 0, 0, 0, 0, 10, 0, 0, 0, 0, 0, 0, 0, 10, 0, 0, 0, 1, 1, 0,
+    0x52, 0x4D, 0x58, 0x43, 3, 0, 0, 0, 0, 0, 0, 0, 10, 0, 0, 0, 0, 0, 0, 0, 10, 0, 0, 0, 1, 1, 0,
     0, 0, 1, 5,
 ];
 

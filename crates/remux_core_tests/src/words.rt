@@ -3,7 +3,7 @@ use shelf_kinds::CalmShelf;
 use std::test::Fail;
 
 /// Words that are no command.
-const NO_COMMANDS: [&[&str]; 35] = [
+const NO_COMMANDS: [&[&str]; 39] = [
     &[],
     &["plan", "t"],
     &["plan", "t", "t"],
@@ -29,6 +29,10 @@ const NO_COMMANDS: [&[&str]; 35] = [
     &["check", "", "c"],
     &["check", "j", ""],
     &["check", "j", "o", "c"],
+    &["check-plan", "t"],
+    &["check-plan", "t", "t"],
+    &["check-plan", "", "c"],
+    &["check-plan", "t", ""],
     &["probe", "a", "1"],
     &["probe", "a", "0", "t"],
     &["probe", "a", "01", "t"],

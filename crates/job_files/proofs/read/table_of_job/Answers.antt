@@ -1,7 +1,8 @@
 use Rattle.std.proofs.Common.{subst}
 use Rattle.job_programs.specs.Told.{HasReadCause}
 use Rattle.job_programs.specs.declared.source_fault.ProgramsFault.{ProgramsFault}
-use Rattle.job_files.proofs.Ends.{missing_ends, programs_end, unread_ends}
+use Rattle.job_files.proofs.Ends.{missing_ends, unread_ends}
+use Rattle.command_words.proofs.Ends.{programs_end}
 use Rattle.job_files.proofs.Steps.{missing_program, program_at, unread_program}
 use Rattle.job_files.proofs.read.table_of_job.Goals as goal
 

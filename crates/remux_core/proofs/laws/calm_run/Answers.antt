@@ -1,8 +1,8 @@
 use Rattle.std.proofs.Common.{◌<◌, Some, refl, inl, inr, lit<, arith}
 use Rattle.shelf_io.specs.Counts.{Rose}
-use Rattle.remux_core.specs.declared.status.Status.TheVariants.{Ok}
-use Rattle.remux_core.specs.Command.{Plan, Gen, Probe}
-use Rattle.remux_core.proofs.One.{is_ok}
+use Rattle.command_words.specs.declared.status.Status.TheVariants.{Ok}
+use Rattle.command_words.specs.Command.{Plan, Gen, Probe}
+use Rattle.command_words.proofs.SameStatus.{is_ok}
 use Rattle.remux_core.proofs.laws.calm_run.Goals as goal
 
 -- a count that is always 0 doesn't rise

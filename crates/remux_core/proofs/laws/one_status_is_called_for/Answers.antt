@@ -4,12 +4,11 @@ use Rattle.remux_core.proofs.laws.one_status_is_called_for.Goals as goal
 pub returns : goal.returns
 returns c =
     let laws : Laws = record {
-      reading = c.one_reading.ensures;
-      smallest = c.smallest_choice_is_one.ensures;
-      scheduled = c.no_miss_where_scheduled.ensures;
-      miss = c.first_miss_is_one.ensures;
-      run = c.jobs_call_for_one.ensures.run;
-      check = c.jobs_call_for_one.ensures.check;
-      probe = c.jobs_call_for_one.ensures.probe;
+      plan = c.plan_calls_for_one.ensures;
+      gen = c.gen_calls_for_one.ensures;
+      run = c.run_calls_for_one.ensures;
+      check = c.check_calls_for_one.ensures;
+      probe = c.probe_calls_for_one.ensures;
+      check_plan = c.check_plan_calls_for_one.ensures;
     } in
     words_call_for_one laws

@@ -1,14 +1,14 @@
 use Rattle.std.proofs.Common.{◌∙◌, List, ℕ, Some, None, map, refl, ap, subst, inl, inr, arith, Err}
 use Rattle.std.specs.String.{string_bytes}
 use Rattle.shelf_io.specs.Sink.{with_bytes, AddsPrefix}
-use Rattle.remux_core.specs.declared.status.Status.TheVariants.{WriteFault, OutOfMemory}
-use Rattle.remux_core.specs.Outside.{shelf_facts, sink_facts}
-use Rattle.remux_core.specs.Private.Ended.{answer_of}
+use Rattle.command_words.specs.declared.status.Status.TheVariants.{WriteFault, OutOfMemory}
+use Rattle.command_words.specs.Outside.{shelf_facts, sink_facts}
+use Rattle.command_words.specs.Ended.{answer_of}
 use Rattle.remux_core.proofs.Answered.{as_called, outcome_of}
 use Rattle.remux_core.proofs.One.{Laws}
 use Rattle.shelf_io.proofs.Counted.{never_failed}
-use Rattle.job_programs.proofs.Ends.{memory_isnt_failed}
-use Rattle.remux_core.proofs.Ends.{faults_end, uncalled_sink}
+use Rattle.command_words.proofs.Ends.{memory_isnt_failed}
+use Rattle.remux_core.proofs.FaultsEnd.{faults_end, uncalled_sink}
 use Rattle.remux_core.proofs.top_call.run.Goals as goal
 
 pub returns-in_default-clause-outcome : goal.returns-in_default-clause-outcome
@@ -58,13 +58,12 @@ returns-in-Ok-clause-called_for g c = λ files status told calls none.
     let shelf = shelf_facts g.K.Shelf.files g.K.Shelf.counts g.K.Shelf.asked g.K.Shelf.since_fault in
     let sink = sink_facts g.O.Sink.written g.O.Sink.faults g.O.Sink.since_fault in
     let laws : Laws = record {
-      reading = c.one_reading.ensures;
-      smallest = c.smallest_choice_is_one.ensures;
-      scheduled = c.no_miss_where_scheduled.ensures;
-      miss = c.first_miss_is_one.ensures;
-      run = c.jobs_call_for_one.ensures.run;
-      check = c.jobs_call_for_one.ensures.check;
-      probe = c.jobs_call_for_one.ensures.probe;
+      plan = c.plan_calls_for_one.ensures;
+      gen = c.gen_calls_for_one.ensures;
+      run = c.run_calls_for_one.ensures;
+      check = c.check_calls_for_one.ensures;
+      probe = c.probe_calls_for_one.ensures;
+      check_plan = c.check_plan_calls_for_one.ensures;
     } in
     as_called laws (map string_bytes c.args.words.now) files (shelf c.args.shelf.now) (shelf c.perform.new.shelf) (sink c.args.out.now) (sink c.put_all.new.sink)
     ended.status status (returns-in-Ok-clause-outcome g c) told calls none
@@ -73,7 +72,7 @@ pub returns-in_default-clause-faults_end : goal.returns-in_default-clause-faults
 returns-in_default-clause-faults_end g c =
     let shelf = shelf_facts g.K.Shelf.files g.K.Shelf.counts g.K.Shelf.asked g.K.Shelf.since_fault in
     let sink = sink_facts g.O.Sink.written g.O.Sink.faults g.O.Sink.since_fault in
-    faults_end (shelf c.args.shelf.now) (shelf c.perform.new.shelf) (sink c.args.out.now) (sink c.args.out.now) None OutOfMemory c.in_default.ensures.ends
+    faults_end (shelf c.args.shelf.now) (shelf c.perform.new.shelf) (sink c.args.out.now) (sink c.args.out.now) None OutOfMemory c.in_default.ensures.performs.ends
     (λ expected is. inr (inr refl)) (uncalled_sink (sink c.args.out.now) OutOfMemory)
 
 pub returns-in-Ok-clause-faults_end : goal.returns-in-Ok-clause-faults_end
@@ -81,7 +80,7 @@ returns-in-Ok-clause-faults_end g c =
     let shelf = shelf_facts g.K.Shelf.files g.K.Shelf.counts g.K.Shelf.asked g.K.Shelf.since_fault in
     let sink = sink_facts g.O.Sink.written g.O.Sink.faults g.O.Sink.since_fault in
     faults_end (shelf c.args.shelf.now) (shelf c.perform.new.shelf) (sink c.args.out.now) (sink c.put_all.new.sink)
-    (answer_of (Some c.in-Some.ended)) c.in-Some.ended.status c.in-Some.ensures.ends (λ expected is. inl is)
+    (answer_of (Some c.in-Some.ended)) c.in-Some.ended.status c.in-Some.ensures.performs.ends (λ expected is. inl is)
     (λ rise. absurd (never_failed tt (c.in-Ok.ensures.only_failed rise)))
 
 pub returns-in-Err-Failed-clause-faults_end : goal.returns-in-Err-Failed-clause-faults_end
@@ -89,7 +88,7 @@ returns-in-Err-Failed-clause-faults_end g c =
     let shelf = shelf_facts g.K.Shelf.files g.K.Shelf.counts g.K.Shelf.asked g.K.Shelf.since_fault in
     let sink = sink_facts g.O.Sink.written g.O.Sink.faults g.O.Sink.since_fault in
     faults_end (shelf c.args.shelf.now) (shelf c.perform.new.shelf) (sink c.args.out.now) (sink c.put_all.new.sink)
-    (answer_of (Some c.in-Some.ended)) WriteFault c.in-Some.ensures.ends (λ expected is. inr (inl refl))
+    (answer_of (Some c.in-Some.ended)) WriteFault c.in-Some.ensures.performs.ends (λ expected is. inr (inl refl))
     (λ rise. (refl, c.in-Err-Failed.ensures.fault_last))
 
 pub returns-in-Err-OutOfMemory-clause-faults_end : goal.returns-in-Err-OutOfMemory-clause-faults_end
@@ -97,5 +96,5 @@ returns-in-Err-OutOfMemory-clause-faults_end g c =
     let shelf = shelf_facts g.K.Shelf.files g.K.Shelf.counts g.K.Shelf.asked g.K.Shelf.since_fault in
     let sink = sink_facts g.O.Sink.written g.O.Sink.faults g.O.Sink.since_fault in
     faults_end (shelf c.args.shelf.now) (shelf c.perform.new.shelf) (sink c.args.out.now) (sink c.put_all.new.sink)
-    (answer_of (Some c.in-Some.ended)) OutOfMemory c.in-Some.ensures.ends (λ expected is. inr (inr refl))
+    (answer_of (Some c.in-Some.ended)) OutOfMemory c.in-Some.ensures.performs.ends (λ expected is. inr (inr refl))
     (λ rise. absurd (memory_isnt_failed c.in-Err-OutOfMemory.field-0 c.in-Err-OutOfMemory.field-0-is (c.in-Err-OutOfMemory.ensures.only_failed rise)))

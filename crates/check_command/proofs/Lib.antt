@@ -1,0 +1,4 @@
+mod Asked
+mod Calls
+pub mod CheckSteps
+pub mod OneStatus

@@ -1,0 +1,3 @@
+pub mod CheckCommand
+pub mod Private
+pub mod Verdict

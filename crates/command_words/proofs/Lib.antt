@@ -1,0 +1,12 @@
+pub mod Contents
+pub mod Counted
+pub mod Decimals
+pub mod Ending
+pub mod Ends
+pub mod Examples
+pub mod OneCommand
+pub mod Performed
+pub mod SameStatus
+pub mod Texts
+pub mod Told
+pub mod WordsSaid

@@ -1,0 +1,48 @@
+-- Words that are those of no command.
+use Rattle.std.proofs.Common.{◌≡◌, ℕ, List, [], ◌∷◌, subst}
+use Rattle.command_words.specs.Command.{Plan, Gen, Run, Check, Probe, CheckPlan, IsCommand, IsPlanCommand, IsGenCommand, IsRunCommand, IsCheckCommand, IsCheckPlanCommand, IsProbeCommand}
+
+-- a verb and two words that are none of `plan`, `check` and `check-plan`
+pub no_pair : (verb first second : List ℕ) → (IsPlanCommand (verb ∷ first ∷ second ∷ []) first second → ⊥)
+    → (IsCheckCommand (verb ∷ first ∷ second ∷ []) first second → ⊥) → (IsCheckPlanCommand (verb ∷ first ∷ second ∷ []) first second → ⊥)
+    → IsCommand (verb ∷ first ∷ second ∷ []) → ⊥
+no_pair verb first second no_plan no_check no_check_plan (Plan table certificate, said) =
+    let are = said.words_are in
+    let a : table ≡ first = cc in
+    let b : certificate ≡ second = cc in
+    let words : List (List ℕ) = verb ∷ first ∷ second ∷ [] in
+    no_plan (subst (λ (x : List ℕ). IsPlanCommand words x second) a (subst (λ (x : List ℕ). IsPlanCommand words table x) b said))
+no_pair verb first second no_plan no_check no_check_plan (Gen seed pictures out, said) = let are = said.words_are in cc
+no_pair verb first second no_plan no_check no_check_plan (Run job out certificate, said) = let are = said.words_are in cc
+no_pair verb first second no_plan no_check no_check_plan (Probe file number table, said) = let are = said.words_are in cc
+no_pair verb first second no_plan no_check no_check_plan (Check job certificate, said) =
+    let are = said.words_are in
+    let a : job ≡ first = cc in
+    let b : certificate ≡ second = cc in
+    let words : List (List ℕ) = verb ∷ first ∷ second ∷ [] in
+    no_check (subst (λ (x : List ℕ). IsCheckCommand words x second) a (subst (λ (x : List ℕ). IsCheckCommand words job x) b said))
+no_pair verb first second no_plan no_check no_check_plan (CheckPlan table certificate, said) =
+    let are = said.words_are in
+    let a : table ≡ first = cc in
+    let b : certificate ≡ second = cc in
+    let words : List (List ℕ) = verb ∷ first ∷ second ∷ [] in
+    no_check_plan (subst (λ (x : List ℕ). IsCheckPlanCommand words x second) a (subst (λ (x : List ℕ). IsCheckPlanCommand words table x) b said))
+
+-- a verb and three words that are none of `run`, `gen` and `probe`
+pub no_three : (verb first second third : List ℕ) → (IsRunCommand (verb ∷ first ∷ second ∷ third ∷ []) first second third → ⊥)
+    → ((seed pictures : ℕ) (out : List ℕ) → IsGenCommand (verb ∷ first ∷ second ∷ third ∷ []) seed pictures out → ⊥)
+    → ((file : List ℕ) (number : ℕ) (table : List ℕ) → IsProbeCommand (verb ∷ first ∷ second ∷ third ∷ []) file number table → ⊥)
+    → IsCommand (verb ∷ first ∷ second ∷ third ∷ []) → ⊥
+no_three verb first second third no_run no_gen no_probe (Plan table certificate, said) = let are = said.words_are in cc
+no_three verb first second third no_run no_gen no_probe (Gen seed pictures out, said) = no_gen seed pictures out said
+no_three verb first second third no_run no_gen no_probe (Run job out certificate, said) =
+    let are = said.words_are in
+    let a : job ≡ first = cc in
+    let b : out ≡ second = cc in
+    let c : certificate ≡ third = cc in
+    let words : List (List ℕ) = verb ∷ first ∷ second ∷ third ∷ [] in
+    no_run (subst (λ (x : List ℕ). IsRunCommand words x second third) a
+    (subst (λ (x : List ℕ). IsRunCommand words job x third) b (subst (λ (x : List ℕ). IsRunCommand words job out x) c said)))
+no_three verb first second third no_run no_gen no_probe (Check job certificate, said) = let are = said.words_are in cc
+no_three verb first second third no_run no_gen no_probe (CheckPlan table certificate, said) = let are = said.words_are in cc
+no_three verb first second third no_run no_gen no_probe (Probe file number table, said) = no_probe file number table said

@@ -1,0 +1,10 @@
+pub mod Answer
+pub mod Command
+pub mod Ended
+pub mod Held
+pub mod Outside
+pub mod Parsed
+pub mod Private
+pub mod Report
+pub mod Status
+pub mod Task

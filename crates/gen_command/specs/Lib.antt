@@ -1,0 +1,2 @@
+pub mod GenCommand
+pub mod Report

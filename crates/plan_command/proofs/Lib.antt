@@ -1,0 +1,4 @@
+pub mod Held
+pub mod OneStatus
+mod Searches
+mod Seen

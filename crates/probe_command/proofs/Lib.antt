@@ -1,0 +1,3 @@
+pub mod OneStatus
+mod ProbedTable
+mod ProbeSteps

@@ -1,0 +1,94 @@
+-- The table of a program that is probed.
+use Rattle.std.proofs.Common.{◌≡◌, ◌+◌, ◌<◌, ◌≤◌, ℕ, List, [], ◌∷◌, ◌++◌, length, map, sum_by, get_or, refl, sym, ap, subst, ◌∙◌, arith, append-nil}
+use Rattle.std.specs.List.{flat_map}
+use Rattle.std.proofs.lemmas.List.{length-append, length-map}
+use Rattle.std.proofs.lemmas.List.Elements.{All-cons, All-nil}
+use Rattle.std.proofs.lemmas.List.Sums.{get_or-le-sum_by, sum_by-cons}
+use Rattle.bit_lists.specs.Fields.{AreBytes}
+use Rattle.job_programs.specs.Probe.{IsProbed, audio_packets}
+use Rattle.job_programs.specs.Programs.{IsWithinTime}
+use Rattle.job_report.specs.declared.limits.TheConstants.{COARSER_DEFAULT, COARSER_MOST, EVALUATIONS_DEFAULT, NODES_DEFAULT, PROBE_SLOT, START_DEFAULT, WEIGHT_DEFAULT, WEIGHT_MOST}
+use Rattle.program_reader.specs.declared.program.AudioSource.{AudioSource}
+use Rattle.program_reader.specs.declared.program.Program.{Program}
+use Rattle.program_reader.specs.Programs.{IsProgramOfFile}
+use Rattle.program_reader.specs.declared.limits.TheConstants.{UNITS_MOST}
+use Rattle.program_table.specs.Table.{IsRowOf, audio_row}
+use Rattle.version_table.specs.declared.limits.TheConstants.{AUDIO_PACKETS_LIMIT, DISTORTIONS_LIMIT, TEXT_AUDIO_PACKETS_MOST}
+use Rattle.version_table.specs.declared.table.AudioPacket.{AudioPacket}
+use Rattle.version_table.specs.declared.table.ProgramRow.{ProgramRow}
+use Rattle.version_table.specs.declared.table.Table.{Table}
+use Rattle.version_table.specs.Table.{IsValidProgram, IsValidTable, greatest_distortion}
+use Rattle.version_table.specs.Text.{IsTextTable}
+use Rattle.version_table.proofs.Sizes.{spelling_size}
+use Rattle.probe_command.specs.ProbeCommand.{IsProbedTable}
+
+-- the packets of a row's audio streams are as many as those of its program
+row_packets : (audios : List AudioSource) → length (flat_map (λ (packets : List AudioPacket). packets) (map audio_row audios)) ≡ audio_packets audios
+row_packets [] = refl
+row_packets (audio ∷ audios) =
+    let here : length (audio_row audio) ≡ length audio.pieces = length-map audio.pieces (λ piece. piece.packet) in
+    let both = length-append (audio_row audio) (flat_map (λ (packets : List AudioPacket). packets) (map audio_row audios)) in
+    let rest = row_packets audios in
+    let all : audio_packets (audio ∷ audios) ≡ length audio.pieces + audio_packets audios = sum_by-cons (λ (a : AudioSource). length a.pieces) audio audios in
+    omega (arith, here, both, rest, all)
+
+-- the law that the row of a program has a place in a table
+abbrev pub RowsArePlaced : Type 0
+RowsArePlaced = (slot start number weight : ℕ) (content drop coarser : List ℕ) (program : Program) (row : ProgramRow) → weight ≤ WEIGHT_MOST → length coarser ≤ COARSER_MOST
+    → IsProgramOfFile content number drop start program → IsWithinTime slot program → AreBytes program.video → IsRowOf program coarser weight row
+    → IsValidProgram slot row × (length row.units ≤ UNITS_MOST) × (length (flat_map (λ packets. packets) row.audios) < AUDIO_PACKETS_LIMIT)
+    × (sum_by greatest_distortion row.units < DISTORTIONS_LIMIT)
+
+-- the table of a program that is probed
+abbrev pub table_of_row : ProgramRow → Table
+table_of_row row = record { slot = PROBE_SLOT; nodes = NODES_DEFAULT; evaluations = EVALUATIONS_DEFAULT; programs = row ∷ [] }
+
+-- is its table
+pub is_probed_table : (program : Program) (row : ProgramRow) → IsRowOf program COARSER_DEFAULT WEIGHT_DEFAULT row → IsProbedTable program (table_of_row row)
+is_probed_table program row is = record { slot = refl; nodes = refl; evaluations = refl; row = row; is_row = is; alone = refl }
+
+-- and a text may hold it
+row_is_text : RowsArePlaced → (number : ℕ) (content : List ℕ) (program : Program) (row : ProgramRow) → IsProbed PROBE_SLOT START_DEFAULT number [] content program
+    → AreBytes program.video → IsRowOf program COARSER_DEFAULT WEIGHT_DEFAULT row → IsTextTable (table_of_row row)
+row_is_text law number content program row probed bytes is =
+    let placed = law PROBE_SLOT START_DEFAULT number WEIGHT_DEFAULT content [] COARSER_DEFAULT program row (omega arith) (omega arith) probed.is_program.holds probed.is_program.within bytes is in
+    let same : length (flat_map (λ (packets : List AudioPacket). packets) row.audios) ≡ audio_packets program.audios =
+    ap (λ (r : ProgramRow). length (flat_map (λ (packets : List AudioPacket). packets) r.audios)) is.row_is ∙ row_packets program.audios in
+    let units : length (row.units ++ []) ≡ length row.units = ap length (append-nil row.units) in
+    let packets : length (flat_map (λ (p : List AudioPacket). p) row.audios ++ []) ≡ length (flat_map (λ (p : List AudioPacket). p) row.audios) =
+    ap length (append-nil (flat_map (λ (p : List AudioPacket). p) row.audios)) in
+    let few : length row.units ≤ UNITS_MOST = placed.1 in
+    let sum : sum_by greatest_distortion (row.units ++ []) ≡ sum_by greatest_distortion row.units = ap (sum_by greatest_distortion) (append-nil row.units) in
+    let valid : IsValidTable (table_of_row row) = record {
+      slot_least = omega arith;
+      slot_most = omega arith;
+      some_nodes = omega arith;
+      nodes = omega arith;
+      evaluations = omega arith;
+      few_programs = omega arith;
+      programs = All-cons (IsValidProgram PROBE_SLOT) row [] placed.0 (All-nil (IsValidProgram PROBE_SLOT));
+      units = omega (arith, units, few);
+      audio_packets = omega (arith, packets, placed.2);
+      distortions = omega (arith, sum, placed.3);
+    } in
+    let few_packets : length (flat_map (λ (p : List AudioPacket). p) row.audios ++ []) ≤ TEXT_AUDIO_PACKETS_MOST = omega (arith, packets, same, probed.few_packets) in
+    record {
+      valid = valid;
+      few_packets = few_packets;
+      short = omega (arith, spelling_size (table_of_row row) valid, units, few, few_packets);
+    }
+
+pub is_text_table : RowsArePlaced → (number : ℕ) (content : List ℕ) (program : Program) (row : ProgramRow) (programs : List ProgramRow)
+    → IsProbed PROBE_SLOT START_DEFAULT number [] content program → AreBytes program.video → IsRowOf program COARSER_DEFAULT WEIGHT_DEFAULT row → programs ≡ row ∷ []
+    → IsTextTable (record { slot = PROBE_SLOT; nodes = NODES_DEFAULT; evaluations = EVALUATIONS_DEFAULT; programs = programs })
+is_text_table law number content program row programs probed bytes is alone =
+    subst (λ (rows : List ProgramRow). IsTextTable (record { slot = PROBE_SLOT; nodes = NODES_DEFAULT; evaluations = EVALUATIONS_DEFAULT; programs = rows })) (sym alone)
+    (row_is_text law number content program row probed bytes is)
+
+-- no audio stream has more packets than all together
+pub few_of_all : (audios : List AudioSource) (i : ℕ) (audio : AudioSource) (most : ℕ) → i < length audios → audio ≡ get_or audios i audio → audio_packets audios ≤ most
+    → length audio.pieces ≤ most
+few_of_all audios i audio most within is few =
+    let one = get_or-le-sum_by (λ (a : AudioSource). length a.pieces) audios i audio within in
+    let same : length audio.pieces ≡ length (get_or audios i audio).pieces = ap (λ (a : AudioSource). length a.pieces) is in
+    omega (arith, one, same, few)

@@ -1,8 +1,0 @@
-use Rattle.remux_core.proofs.WordsSaid.{no_three}
-use Rattle.remux_core.proofs.command.parse_three.Goals as goal
-
-pub returns-in-None-parse_probe : goal.returns-in-None-parse_probe
-returns-in-None-parse_probe c =
-    no_three c.args.verb.now c.args.first.now c.args.second.now c.args.third.now
-    (λ said. let yes = c.is_run.ensures.1 said in let no = c.if-is_run.false in cc)
-    c.in-None.ensures c.in-None-parse_probe.ensures
