@@ -1,5 +1,5 @@
 pub mod LayoutLemmas
-mod LayoutRows
+pub mod LayoutRows
 mod Maps
 pub mod NamedVersions
 mod OneStream

@@ -1,4 +1,4 @@
-mod Examples
+pub mod Examples
 mod SectionExamples
 pub mod Pids
 pub mod Sections

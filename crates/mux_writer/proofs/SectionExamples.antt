@@ -7,6 +7,7 @@ use Rattle.psi_tables.specs.Pmt.{pids_of}
 use Rattle.mux_writer.specs.declared.layout.Layout.{Layout}
 use Rattle.mux_writer.specs.Layout.{with_output_pids}
 use Rattle.mux_writer.specs.Tables.{pat_payload, pat_section, pmt_section}
+use Rattle.mux_writer.proofs.Examples.{map_of}
 
 abbrev stream_of : (kind pid : ℕ) → (descriptors : List ℕ) → Stream
 stream_of kind pid descriptors = record { kind = kind; pid = pid; descriptors = record { items = descriptors } }
@@ -22,7 +23,6 @@ eight = record {
   maps = record { items = map video_alone (80 ∷ 70 ∷ 60 ∷ 50 ∷ 40 ∷ 30 ∷ 20 ∷ 10 ∷ []) };
   bases = record { items = replicate 8 0 };
 }
-use Rattle.mux_writer.proofs.Examples.{map_of}
 
 abbrev eight_pat : List ℕ
 eight_pat =

@@ -1,7 +1,7 @@
 use Rattle.std.proofs.Common.{◌≡◌, ℕ, List, Some, All, length, sym, ap, subst, ◌∙◌, arith}
 use Rattle.std.proofs.lemmas.Result.{on_err_weaker, on_ok_weaker}
 use Rattle.shelf_io.specs.Sink.{AddsPrefix, with_bytes}
-use Rattle.shelf_io.proofs.Counted.{no_rise}
+use Rattle.job_programs.proofs.Ends.{no_rise}
 use Rattle.mux_writer.specs.declared.layout.Layout.{Layout}
 use Rattle.mux_writer.specs.Output.{IsOfLayout}
 use Rattle.version_source.specs.Pieces.{HasPiece, pieces_of}
