@@ -1,15 +1,12 @@
 -- Frames one behind the other, one more at the end.
-use Rattle.std.proofs.Common.{◌≡◌, ℕ, ◌+◌, ◌<◌, ◌≤◌, Bool, true, false, cond, ◌||◌, ◌==◌, List, [], ◌∷◌, ◌++◌, length, drop, Some, None, refl, sym, subst, arith, length-append, inl, inr}
+use Rattle.std.proofs.Common.{◌≡◌, ℕ, ◌+◌, ◌<◌, ◌≤◌, true, List, [], ◌∷◌, ◌++◌, length, refl, sym, ap, ◌∙◌, subst, arith, length-append, inl, inr}
 use Rattle.std.specs.Prelude.{slice_index}
 use Rattle.std.proofs.Math.ListN.{get_or-append}
 use Rattle.std.proofs.lemmas.List.{get_or-append-add}
-use Rattle.std.proofs.lemmas.Bool.{cases_lt, or_parts}
-use Rattle.audio_frames.specs.declared.audio_fault.AudioFault.{AudioFault}
-use Rattle.audio_frames.specs.declared.audio_fault.AudioFault.TheVariants.{NotLayer2, AudioSync}
-use Rattle.audio_frames.specs.FrameHeader.{syncword}
-use Rattle.audio_frames.specs.Frames.{is_audio_frame, end_of, goes_on, is_near_end, is_rest, is_first, has_header, AreFrames, AreAllFrames, BreaksAt, first_frame}
-use Rattle.audio_frames.specs.Private.Places.{AreApart, break_at, IsBroken}
-use Rattle.audio_frames.proofs.Formats.{rest_from, no_rest_at_frame, first_is_frame, frame_header}
+use Rattle.std.proofs.lemmas.Bool.{cases_lt}
+use Rattle.audio_frames.specs.Frames.{is_audio_frame, end_of, is_rest, is_first, has_header, AreFrames, AreAllFrames}
+use Rattle.audio_frames.specs.Private.Places.{AreApart}
+use Rattle.audio_frames.proofs.Formats.{no_rest_at_frame, first_is_frame, frame_header}
 use Rattle.audio_frames.proofs.Places.{found_passes}
 
 pub frames_more : (payload : List ℕ) (first from : ℕ) (places : List ℕ) (at : ℕ) → AreFrames payload first from places at
@@ -41,73 +38,39 @@ apart_more places at end apart far =
       ];
     }
 
--- where nothing breaks off behind the last whole frame, they are all frames
-pub all_frames : (payload places : List ℕ) (first end : ℕ) → first_frame payload ≡ Some first → AreFrames payload first first places end
-    → is_audio_frame payload first end ≡ false → break_at payload first end ≡ None → AreAllFrames payload places
-all_frames payload places first end begun frames no_frame no_break =
-    record {
-      end = end;
-      all = record { first = first; begun = begun; frames = frames };
-      rest = by_test (is_near_end payload end || goes_on payload first end) refl no_break;
-    }
-  where
-    by_test : (on : Bool) → (is_near_end payload end || goes_on payload first end) ≡ on
-        → cond on None (cond (syncword (drop end payload) == 0xFFF) (Some (NotLayer2 end)) (Some (AudioSync end))) ≡ None
-        → is_rest payload first end ≡ true
-    by_test true on is = rest_from (is_near_end payload end) (goes_on payload first end) (end_of payload end) (length payload) on no_frame
-    by_test false on is = by_sync (syncword (drop end payload) == 0xFFF) is
-      where
-        by_sync : (sync : Bool) → cond sync (Some (NotLayer2 end)) (Some (AudioSync end)) ≡ None → is_rest payload first end ≡ true
-        by_sync true is = absurd (cc)
-        by_sync false is = absurd (cc)
-
-some_same : (a b : AudioFault) → Some a ≡ Some b → a ≡ b
-some_same a b is = cc
-
--- a fault behind the last whole frame breaks them off
-pub broken_there : (payload places : List ℕ) (first end : ℕ) (fault : AudioFault) → first_frame payload ≡ Some first
-    → AreFrames payload first first places end → break_at payload first end ≡ Some fault → IsBroken payload fault
-broken_there payload places first end fault begun frames = by_test (is_near_end payload end || goes_on payload first end) refl
-  where
-    broken : (sync : Bool) → (is_near_end payload end || goes_on payload first end) ≡ false → (syncword (drop end payload) == 0xFFF) ≡ sync → BreaksAt payload end sync
-    broken sync on is = (let parts : (is_near_end payload end ≡ false) × (goes_on payload first end ≡ false) = or_parts _ _ on in
-        record { places = places; before = record { first = first; begun = begun; frames = frames }; long = parts.0; other = parts.1; sync = is })
-
-    by_test : (on : Bool) → (is_near_end payload end || goes_on payload first end) ≡ on
-        → cond on None (cond (syncword (drop end payload) == 0xFFF) (Some (NotLayer2 end)) (Some (AudioSync end))) ≡ Some fault
-        → IsBroken payload fault
-    by_test true on is = absurd (cc)
-    by_test false on is = by_sync (syncword (drop end payload) == 0xFFF) refl is
-      where
-        by_sync : (sync : Bool) → (syncword (drop end payload) == 0xFFF) ≡ sync → cond sync (Some (NotLayer2 end)) (Some (AudioSync end)) ≡ Some fault → IsBroken payload fault
-        by_sync true stands is = subst (IsBroken payload) (some_same _ _ is) (broken true on stands)
-        by_sync false stands is = subst (IsBroken payload) (some_same _ _ is) (broken false on stands)
-
--- what the end of a frame says of it
-pub frame_found : (payload : List ℕ) (first at end : ℕ) → Some end ≡ cond (is_audio_frame payload first at) (Some (end_of payload at)) None
-    → (is_audio_frame payload first at ≡ true) × (end ≡ end_of payload at)
-frame_found payload first at end = by_test (is_audio_frame payload first at)
-  where
-    by_test : (is : Bool) → Some end ≡ cond is (Some (end_of payload at)) None → (is ≡ true) × (end ≡ end_of payload at)
-    by_test true some = (refl, same_place end (end_of payload at) some)
-      where
-        same_place : (a b : ℕ) → Some a ≡ Some b → a ≡ b
-        same_place a b is = cc
-    by_test false some = absurd (cc)
-
-pub no_frame_found : (payload : List ℕ) (first at : ℕ) → None ≡ cond (is_audio_frame payload first at) (Some (end_of payload at)) None → is_audio_frame payload first at ≡ false
-no_frame_found payload first at = by_test (is_audio_frame payload first at)
-  where
-    by_test : (is : Bool) → None ≡ cond is (Some (end_of payload at)) None → is ≡ false
-    by_test true none = absurd (cc)
-    by_test false none = refl
-
 -- all frames of a payload: there is a first one, and its header stands
 pub some_frame : (payload places : List ℕ) → AreAllFrames payload places → (0 < length places) × (has_header payload (slice_index places 0) ≡ true)
 some_frame payload places all = by_places places all.all.frames
   where
     by_places : (places : List ℕ) → AreFrames payload all.all.first all.all.first places all.end → (0 < length places) × (has_header payload (slice_index places 0) ≡ true)
-    by_places [] frames = absurd (no_rest_at_frame payload all.all.first
+    by_places [] frames = absurd (no_rest_at_frame payload all.all.first all.all.first
         (subst (λ (end : ℕ). is_rest payload all.all.first end ≡ true) (sym frames) all.rest)
         (first_is_frame payload all.all.first (found_passes (is_first payload) (length payload) 0 all.all.first all.all.begun).0))
     by_places (place ∷ places) frames = (omega arith, frame_header payload all.all.first place frames.1)
+
+-- frames behind frames
+pub frames_join : (payload : List ℕ) (first from : ℕ) (places : List ℕ) (middle : ℕ) (others : List ℕ) (end : ℕ) → AreFrames payload first from places middle
+    → AreFrames payload first middle others end → AreFrames payload first from (places ++ others) end
+frames_join payload first from [] middle others end before behind = subst (λ (n : ℕ). AreFrames payload first n others end) (sym before) behind
+frames_join payload first from (place ∷ places) middle others end before behind =
+    (before.0, before.1, frames_join payload first (end_of payload place) places middle others end before.2 behind)
+
+-- frames up to a place are the first of those up to a rest
+pub frames_front : (payload : List ℕ) (first from : ℕ) (places all : List ℕ) (middle end : ℕ) → AreFrames payload first from places middle
+    → AreFrames payload first from all end → is_rest payload first end ≡ true → (others : List ℕ) × (all ≡ places ++ others)
+frames_front payload first from [] all middle end some are rest = (all, refl)
+frames_front payload first from (place ∷ places) [] middle end some are rest =
+    absurd (no_rest_at_frame payload first end rest (subst (λ (n : ℕ). is_audio_frame payload first n ≡ true) (sym some.0 ∙ are) some.1))
+frames_front payload first from (place ∷ places) (next ∷ all) middle end some are rest =
+    let same : place ≡ next = sym some.0 ∙ are.0 in
+    let later : (others : List ℕ) × (all ≡ places ++ others) = frames_front payload first (end_of payload next) places all middle end
+    (subst (λ (n : ℕ). AreFrames payload first (end_of payload n) places middle) same some.2) are.2 rest in
+    (later.0, ap (λ (xs : List ℕ). next ∷ xs) later.1 ∙ ap (λ (n : ℕ). n ∷ (places ++ later.0)) (sym same))
+
+-- places that are apart before a place are so before a later one
+pub apart_later : (places : List ℕ) (at end : ℕ) → at ≤ end → AreApart places at → AreApart places end
+apart_later places at end order apart = record {
+  count = omega (arith, order, apart.count);
+  rising = apart.rising;
+  inside = λ k lt. omega (arith, order, apart.inside k lt);
+}

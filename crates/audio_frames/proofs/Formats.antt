@@ -19,6 +19,7 @@ use Rattle.std.proofs.Common.{
   List,
   length,
   drop,
+  Option,
   Some,
   None,
   refl,
@@ -37,7 +38,8 @@ use Rattle.std.proofs.lemmas.Bool.{and_parts, and_from, and_left, and_right, leb
 use Rattle.audio_frames.specs.declared.frame_header.FrameHeader.{FrameHeader}
 use Rattle.audio_frames.specs.FrameHeader.{id, sampling_index, frame_length, hertz, sampling_rate, is_header, is_same_format}
 use Rattle.audio_frames.specs.Frames.{has_header, end_of, goes_on, is_near_end, is_rest, is_first, is_audio_frame}
-use Rattle.audio_frames.specs.Private.Format.{header_of, has_format}
+use Rattle.audio_frames.specs.Format.{header_of}
+use Rattle.audio_frames.specs.Private.Format.{has_format}
 
 -- a header that was kept stands there
 pub header_stands : (bytes : List ℕ) (header : FrameHeader) → header_of bytes ≡ Some header → is_header bytes ≡ true
@@ -46,6 +48,14 @@ header_stands bytes header = by_test (is_header bytes)
     by_test : (test : Bool) → cond test (Some (record { id = id bytes; sampling_index = sampling_index bytes; len = frame_length bytes })) None ≡ Some header → test ≡ true
     by_test true is = refl
     by_test false is = absurd (cc)
+
+-- and where none was kept none stands
+pub no_header : (bytes : List ℕ) → header_of bytes ≡ None → is_header bytes ≡ false
+no_header bytes = by_test (is_header bytes)
+  where
+    by_test : (test : Bool) → cond {A = Option FrameHeader} test (Some (record { id = id bytes; sampling_index = sampling_index bytes; len = frame_length bytes })) None ≡ None → test ≡ false
+    by_test true is = absurd (cc)
+    by_test false is = refl
 
 pub kept_id : (bytes : List ℕ) (header : FrameHeader) → header_of bytes ≡ Some header → header.id ≡ id bytes
 kept_id bytes header = by_test (is_header bytes)
@@ -61,6 +71,12 @@ kept_index bytes header = by_test (is_header bytes)
         ≡ Some header → header.sampling_index ≡ sampling_index bytes
     by_test true is = cc
     by_test false is = absurd (cc)
+
+-- its sampling index is one of the table
+pub index_small : (bytes : List ℕ) (header : FrameHeader) → header_of bytes ≡ Some header → header.sampling_index < 3
+index_small bytes header is =
+    let small : sampling_index bytes ≤ 2 = leb-true (sampling_index bytes) 2 (and_parts _ (nat_le (sampling_index bytes) 2) (header_stands bytes header is)).1 in
+    omega (arith, small, kept_index bytes header is)
 
 -- a header is kept of bytes with one
 pub is_kept : (bytes : List ℕ) → is_header bytes ≡ true → header_of bytes ≡ Some (record { id = id bytes; sampling_index = sampling_index bytes; len = frame_length bytes })
@@ -141,14 +157,14 @@ pub rest_whole : (payload : List ℕ) (at : ℕ) → take (length payload - at) 
 rest_whole payload at = take_all (length payload - at) (drop at payload) (omega (arith, length-drop at payload))
 
 -- where a frame stands no rest does
-pub no_rest_at_frame : (payload : List ℕ) (at : ℕ) → is_rest payload at at ≡ true → is_audio_frame payload at at ≡ true → ⊥
-no_rest_at_frame payload at rest frame =
-    let parts : (goes_on payload at at ≡ true) × (nat_le (end_of payload at) (length payload) ≡ true) = and_parts (goes_on payload at at) (nat_le (end_of payload at) (length payload)) frame in
-    let long : at + 4 ≤ length payload = header_long payload at (goes_on_header payload at at parts.0) in
+pub no_rest_at_frame : (payload : List ℕ) (first at : ℕ) → is_rest payload first at ≡ true → is_audio_frame payload first at ≡ true → ⊥
+no_rest_at_frame payload first at rest frame =
+    let parts : (goes_on payload first at ≡ true) × (nat_le (end_of payload at) (length payload) ≡ true) = and_parts (goes_on payload first at) (nat_le (end_of payload at) (length payload)) frame in
+    let long : at + 4 ≤ length payload = header_long payload at (goes_on_header payload first at parts.0) in
     let far : is_near_end payload at ≡ false = le-ltb (length payload) (at + 4) long in
     let whole : nat_lt (length payload) (end_of payload at) ≡ false = le-ltb (length payload) (end_of payload at) (leb-true (end_of payload at) (length payload) parts.1) in
-    both_ways (is_rest payload at at) (or_from (is_near_end payload at) (goes_on payload at at && nat_lt (length payload) (end_of payload at)) far
-    (and_right (goes_on payload at at) (nat_lt (length payload) (end_of payload at)) whole)) rest
+    both_ways (is_rest payload first at) (or_from (is_near_end payload at) (goes_on payload first at && nat_lt (length payload) (end_of payload at)) far
+    (and_right (goes_on payload first at) (nat_lt (length payload) (end_of payload at)) whole)) rest
 
 -- the sampling rate of the header that was kept is that of the bytes
 pub kept_rate : (bytes : List ℕ) (header : FrameHeader) (rate : ℕ) → header_of bytes ≡ Some header → rate ≡ slice_index (hertz header.id) header.sampling_index → rate ≡ sampling_rate bytes

@@ -1,4 +1,6 @@
+pub mod Format
 pub mod FrameHeader
 pub mod Frames
 pub mod Times
+pub mod Walk
 pub mod Private

@@ -2,11 +2,9 @@ ghost use Rattle.std.specs.Prelude.{◌<◌, ◌^◌, length, IfOk, IfErr};
 ghost use Rattle.audio_frames.specs.Times.{AreStarts, AreFramesOf, IsAudioRefused};
 
 use crate::audio_fault::AudioFault;
-use crate::first_frame::find_first;
-use crate::frame_header::FrameHeader;
-use crate::frame_places::find_places;
 use crate::frame_times::timed_frames;
 use crate::pes_start::PesStart;
+use crate::place_ends::end_search;
 use list_types::ListOf;
 use std::alloc::Global;
 
@@ -34,9 +32,13 @@ pub fn frames(
     ensures frames { IfOk result (AreFramesOf payload.now starts.now) }
     ensures refused { IfErr result (IsAudioRefused payload.now starts.now) }
 {
-    let Some(first) = find_first(payload) else {
-        return Err(AudioFault::NotLayer2 { at: 0 });
-    };
-    let places = find_places(alloc, payload, first)?;
-    timed_frames(alloc, payload, starts, places.as_slice())
+    let mut places = ListOf::new(alloc);
+    let format = end_search(payload, 0, &mut places)?;
+    timed_frames(
+        alloc,
+        payload.len() as u64,
+        format.hertz(),
+        starts,
+        places.as_slice(),
+    )
 }

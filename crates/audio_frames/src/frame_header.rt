@@ -1,7 +1,8 @@
 ghost use Rattle.std.specs.Prelude.{◌≡◌, ◌+◌, ◌-◌, ◌*◌, ◌/◌, ◌<◌, ◌≤◌, ◌==◌, ◌&&◌, length, drop, true, slice_index, Some, IfSome};
 ghost use Rattle.audio_frames.specs.Frames.{has_header};
 ghost use Rattle.audio_frames.specs.FrameHeader.{syncword, kilobits, hertz};
-ghost use Rattle.audio_frames.specs.Private.Format.{header_of, has_format};
+ghost use Rattle.audio_frames.specs.Format.{header_of};
+ghost use Rattle.audio_frames.specs.Private.Format.{has_format};
 
 /// Bytes of a header.
 pub const HEADER_BYTES: usize = 4;
@@ -92,13 +93,12 @@ impl FrameHeader {
         self.id == next.id && self.sampling_index == next.sampling_index
     }
 
-    /// Samples per second.
+    /// Samples per second; those of the last index for one that no header has.
     pub fn hertz(self) -> u32
-        requires { self.sampling_index < 3 }
-        ensures value { result ≡ slice_index (hertz self.id) self.sampling_index }
+        ensures value { self.sampling_index < 3 → result ≡ slice_index (hertz self.id) self.sampling_index }
         ensures range { (16000 ≤ result) × (result ≤ 48000) }
     {
-        hertz_of(self.id, self.sampling_index)
+        hertz_of(self.id, self.sampling_index.min(LAST_SAMPLING_INDEX))
     }
 }
 

@@ -1,33 +1,33 @@
-ghost use Rattle.std.specs.Prelude.{◌≡◌, ◌+◌, ◌<◌, ◌≤◌, ◌^◌, length, IfOk, IfErr};
-ghost use Rattle.audio_frames.specs.Frames.{AreAllFrames};
+ghost use Rattle.std.specs.Prelude.{◌≡◌, ◌+◌, ◌<◌, ◌≤◌, ◌^◌, ℕ, List, IfOk, IfErr};
 ghost use Rattle.audio_frames.specs.Times.{AreStarts, AreFramesOf};
-ghost use Rattle.audio_frames.specs.Private.Packets.{IsTimeRefused};
+ghost use Rattle.audio_frames.specs.Private.Packets.{IsTimedFor, IsTimeRefused};
 ghost use Rattle.audio_frames.specs.Private.Places.{AreApart};
 
 use crate::audio_fault::AudioFault;
 use crate::clock::Clock;
 use crate::frame::Frame;
-use crate::frame_header::header_at;
 use crate::pes_start::PesStart;
 use list_types::ListOf;
 use std::alloc::Global;
 
-/// The frames that begin at these places of a payload, with their times. An error is NoAudioTime or TimeOrder.
+/// The frames that begin at these places of a payload of so many bytes, with their times. An error is NoAudioTime or TimeOrder.
 pub fn timed_frames(
     alloc: Global,
-    payload: &[u8],
+    size: u64,
+    rate: u32,
     starts: &[PesStart],
     places: &[u64],
 ) -> Result<ListOf<Frame>, AudioFault>
-    requires size { length payload.now < 2 ^ 30 }
-    requires starts { AreStarts (length payload.now) starts.now }
-    requires places { AreAllFrames payload.now places.now }
-    requires apart { AreApart places.now (length payload.now) }
-    requires some { 0 < length places.now }
-    ensures frames { IfOk result (AreFramesOf payload.now starts.now) }
-    ensures refused { IfErr result (IsTimeRefused payload.now starts.now) }
+    requires size { size < 2 ^ 30 }
+    requires rate { 16000 ≤ rate }
+    requires starts { AreStarts size starts.now }
+    requires apart { AreApart places.now size }
+    ensures frames { IfOk result (λ frames. (payload : List ℕ) → IsTimedFor payload places.now size rate → AreFramesOf payload starts.now frames) }
+    ensures refused { IfErr result (λ fault. (payload : List ℕ) → IsTimedFor payload places.now size rate → IsTimeRefused payload starts.now fault) }
 {
-    let rate = header_at(payload, places[0] as usize).hertz();
+    if places.is_empty() {
+        return Ok(ListOf::new(alloc));
+    }
     let Some(mut clock) = Clock::start(rate, starts, places) else {
         return Err(AudioFault::NoAudioTime { at: places[0] });
     };
@@ -43,7 +43,7 @@ pub fn timed_frames(
         begin = end;
         clock = next;
     }
-    frames.push(frame_of(begin, payload.len() as u64, clock.time))?;
+    frames.push(frame_of(begin, size, clock.time))?;
     Ok(frames)
 }
 

@@ -1,6 +1,12 @@
 pub mod BehindSlice
 pub mod Codes
 pub mod CutSteps
+pub mod CutterKeeps
+pub mod CutterPieces
+pub mod CutterPushes
+pub mod CutterSteps
 pub mod Examples
+pub mod FrontCodes
+pub mod Fronts
 pub mod Places
 pub mod Spans

@@ -6,12 +6,16 @@
 //! Stands on `list_types` and `stream_constants`.
 #![tactic(auto)]
 
+mod cut_state;
 mod cuts;
+mod joint_code;
 mod start_code;
+mod unit_cutter;
 mod unit_fault;
 mod units;
 
 pub use start_code::{StartCode, next_start_code};
+pub use unit_cutter::{CutUnit, UnitCutter};
 pub use unit_fault::UnitFault;
 pub use units::{Units, split_units};
 

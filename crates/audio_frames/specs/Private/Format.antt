@@ -1,11 +1,7 @@
--- What the code keeps of a header.
-use Rattle.std.specs.Prelude.{◌==◌, Bool, ◌&&◌, ℕ, List, Option, Some, None, if◌then◌else◌}
+-- A header against the one that was kept.
+use Rattle.std.specs.Prelude.{◌==◌, Bool, ◌&&◌, ℕ, List}
 use Rattle.audio_frames.specs.declared.frame_header.FrameHeader.{FrameHeader}
-use Rattle.audio_frames.specs.FrameHeader.{id, sampling_index, frame_length, is_header}
-
--- what is kept of a header that the bytes begin with
-abbrev pub header_of : List ℕ → Option FrameHeader
-header_of bytes = if is_header bytes then Some (record { id = id bytes; sampling_index = sampling_index bytes; len = frame_length bytes }) else None
+use Rattle.audio_frames.specs.FrameHeader.{id, sampling_index, is_header}
 
 -- the bytes begin with a header of the format that was kept
 abbrev pub has_format : FrameHeader → List ℕ → Bool

@@ -5,7 +5,8 @@ use Rattle.audio_frames.specs.declared.audio_fault.AudioFault.{AudioFault}
 use Rattle.audio_frames.specs.declared.audio_fault.AudioFault.TheVariants.{NotLayer2, AudioSync, NoAudioTime, TimeOrder, OutOfMemory}
 use Rattle.audio_frames.specs.declared.clock.Clock.{Clock}
 use Rattle.audio_frames.specs.declared.pes_start.PesStart.{PesStart}
-use Rattle.audio_frames.specs.Times.{frame_ticks, given_time, IsUntimed, IsOutOfOrder}
+use Rattle.audio_frames.specs.Frames.{AreAllFrames}
+use Rattle.audio_frames.specs.Times.{frame_ticks, given_time, rate_of, IsUntimed, IsOutOfOrder}
 
 -- the place where the payload of a packet begins
 abbrev pub start_of : List PesStart → ℕ → ℕ
@@ -48,3 +49,9 @@ IsTimeRefused payload starts (TimeOrder at) = IsOutOfOrder payload starts at
 IsTimeRefused payload starts OutOfMemory = Unit {0}
 IsTimeRefused payload starts (NotLayer2 _) = ⊥
 IsTimeRefused payload starts (AudioSync _) = ⊥
+
+-- a payload of so many bytes that is all frames at these places, with so many samples per second
+pub record IsTimedFor (payload places : List ℕ) (size rate : ℕ) : Type 0 where
+  pub long : length payload ≡ size
+  pub all : AreAllFrames payload places
+  pub rate_is : rate ≡ rate_of payload places
