@@ -1,5 +1,5 @@
 -- A tree that isn't branched any more: its bound, and why it ends.
-use Rattle.std.proofs.Common.{◌≡◌, ℕ, suc, ◌+◌, ◌<◌, ◌≤◌, ◌⊎◌, inl, inr, List, [], ◌∷◌, length, map, Option, Some, None, sym, ap, subst, ◌∙◌, arith}
+use Rattle.std.proofs.Common.{◌≡◌, ℕ, suc, ◌+◌, ◌<◌, ◌≤◌, ◌⊎◌, inl, inr, List, [], ◌∷◌, length, map, Option, Some, None, refl, sym, ap, subst, ◌∙◌, arith}
 use Rattle.std.specs.List.{AllByRecursion, Contains}
 use Rattle.std.specs.List.Sorted.{IsPermutation}
 use Rattle.std.specs.BinaryHeap.{heap_items}
@@ -18,14 +18,16 @@ use Rattle.certificate_checker.proofs.Soundness.{faultless_bound}
 use Rattle.branch_plan.specs.declared.arena.Arena.{Arena}
 use Rattle.branch_plan.specs.declared.arena.Link.{Link}
 use Rattle.branch_plan.specs.declared.branching.Growth.{Growth}
+use Rattle.branch_plan.specs.declared.found.Found.{Found}
 use Rattle.branch_plan.specs.declared.known.Known.{Known}
 use Rattle.branch_plan.specs.Tree.{HasLeaf}
 use Rattle.branch_plan.specs.Private.Branching.{Ends, IsGrown, IsOpenAt, IsSettledIn, IsSpentAt, IsTaken, IsTree}
-use Rattle.branch_plan.specs.Private.Forest.{Forest, ids_then, least_shown, occurs}
+use Rattle.branch_plan.specs.Private.Forest.{Forest, no_tree, leaf_at, branch_at, ids_then, least_shown, occurs}
+use Rattle.branch_plan.specs.Private.Found.{IsFounded}
 use Rattle.branch_plan.specs.Private.Growth.{IsOrder, node_of}
 use Rattle.branch_plan.specs.Private.Known.{IsKnown}
 use Rattle.branch_plan.specs.Private.Leaves.{IsFreeUnit}
-use Rattle.branch_plan.proofs.Forests.{at_most_least, has_leaf, least_at_most, tree_walks}
+use Rattle.branch_plan.proofs.Forests.{at_most_least, has_leaf, in_branch, in_leaf, least_at_most, tree_walks}
 use Rattle.branch_plan.proofs.Opens.{all_contained, contains_first, first_or_more}
 use Rattle.branch_plan.proofs.Splits.{ids_count}
 use Rattle.branch_plan.proofs.Growing.{lower_bound}
@@ -63,6 +65,34 @@ tree_shows : (table : Table) (nodes : List Node) (links : List Link) (path : ℕ
     → Walks table (unfixed table) (map (node_of nodes) (ids_then tree [])) (Shows (least_shown table (node_of nodes) (λ j. unfixed table) 0 tree) [])
 tree_shows table nodes links path tree is = tree_walks table (length nodes) (node_of nodes) path (unfixed table) tree is.one is.stands
 
+-- ---- each node stands in that order
+contains_number : (id : ℕ) (ids : List ℕ) → Contains (id ∷ ids) id
+contains_number id ids = (0, omega arith, refl)
+
+contains_later : (id j : ℕ) (ids : List ℕ) → Contains ids j → Contains (id ∷ ids) j
+contains_later id j ids (k, within, is) = (suc k, omega (arith, within), is)
+
+contains_behind : (j id : ℕ) (ids : List ℕ) → (id ≡ j) ⊎ Contains ids j → Contains (id ∷ ids) j
+contains_behind j id ids (inl same) = subst (λ (n : ℕ). Contains (id ∷ ids) n) same (contains_number id ids)
+contains_behind j id ids (inr there) = contains_later id j ids there
+
+there_behind : (j : ℕ) (trees : Forest) (behind : List ℕ) → Contains behind j → Contains (ids_then trees behind) j
+there_behind j no_tree behind there = there
+there_behind j (leaf_at id more) behind there = contains_behind j id (ids_then more behind) (inr (there_behind j more behind there))
+there_behind j (branch_at id unit below more) behind there =
+    contains_behind j id (ids_then below (ids_then more behind)) (inr (there_behind j below (ids_then more behind) (there_behind j more behind there)))
+
+pub each_there : (j : ℕ) (trees : Forest) (behind : List ℕ) → 0 < occurs j trees → Contains (ids_then trees behind) j
+each_there j no_tree behind some = absurd (omega (arith, some))
+each_there j (leaf_at id more) behind some =
+    in_leaf id j (occurs j more) some (λ same. contains_behind j id (ids_then more behind) (inl same))
+    (λ later. contains_behind j id (ids_then more behind) (inr (each_there j more behind later)))
+each_there j (branch_at id unit below more) behind some =
+    let all = ids_then below (ids_then more behind) in
+    in_branch id j (occurs j below) (occurs j more) some (λ same. contains_behind j id all (inl same))
+    (λ under. contains_behind j id all (inr (each_there j below (ids_then more behind) under)))
+    (λ later. contains_behind j id all (inr (there_behind j below (ids_then more behind) (each_there j more behind later))))
+
 -- ---- the bound is the distortion
 settled_best : (table : Table) (nodes : List Node) (path : ℕ → List (Option ℕ)) (leaves : List (Reverse (ℕ × ℕ))) (distortion j : ℕ)
     → ((leaf : Reverse (ℕ × ℕ)) → Contains leaves leaf → distortion ≤ leaf.0.0) → IsSettledIn table nodes path leaves distortion j
@@ -71,11 +101,11 @@ settled_best table nodes path leaves distortion j each (inl most) = most
 settled_best table nodes path leaves distortion j each (inr (leaf, there, number, is)) =
     subst (λ (b : Option ℕ). IsAtMost distortion b) (sym is) (each leaf there)
 
-pub ends_best : (table : Table) (most root : ℕ) (arena : Arena) (known : Known) (leaves : List (Reverse (ℕ × ℕ))) → IsValidTable table
-    → IsGrown table most root arena.nodes.items arena.links.items leaves known.distortion → IsKnown table known → root ≤ known.distortion → length arena.nodes.items ≤ most
+pub ends_best : (table : Table) (most root time : ℕ) (arena : Arena) (known : Known) (found : Found) (leaves : List (Reverse (ℕ × ℕ))) → IsValidTable table
+    → IsGrown table most root arena.nodes.items arena.links.items leaves known.distortion → IsKnown table known → root ≤ known.distortion → IsFounded table most found time root arena.nodes.items → length arena.nodes.items ≤ most
     → ((leaf : Reverse (ℕ × ℕ)) → Contains leaves leaf → known.distortion ≤ leaf.0.0)
-    → Ends table most root (record { arena = arena; bound = known.distortion; known = known })
-ends_best table most root arena known leaves valid grown is root_is few each =
+    → Ends table most (record { arena = arena; bound = known.distortion; known = known; found = found })
+ends_best table most root time arena known found leaves valid grown is root_is founded few each =
     let nodes = arena.nodes.items in
     let ids = ids_then grown.tree [] in
     let shown = least_shown table (node_of nodes) (λ j. unfixed table) 0 grown.tree in
@@ -85,13 +115,15 @@ ends_best table most root arena known leaves valid grown is root_is few each =
     let best = shown_best table shown (map (node_of nodes) ids) known valid is walks all in
     record {
       ids = ids;
+      there = λ j low. each_there j grown.tree [] (omega (arith, grown.is.once j low));
       order = tree_order table nodes arena.links.items grown.path grown.tree grown.is;
       as_many = grown.is.as_many;
       nodes = few;
       each = grown.each;
       known = is;
       shows = subst (λ (b : Option ℕ). Walks table (unfixed table) (map (node_of nodes) ids) (Shows b [])) best walks;
-      at_least = root_is;
+      time = omega (arith, founded.time_is, founded.least, root_is);
+      buffers = λ fit bound is_bound. omega (arith, founded.buffers fit bound is_bound, root_is);
       at_most = omega arith;
       spent = λ less. absurd (omega (arith, less));
     }
@@ -110,7 +142,7 @@ settled_least table nodes path all leaves top bound distortion j is less taken l
 
 pub ends_spent : (table : Table) (most bound number unit : ℕ) (growth : Growth) → IsValidTable table → (taken : IsTaken table most growth bound number)
     → IsFreeUnit table (taken.grown.path number) unit → most < length growth.arena.nodes.items + versions_of table unit
-    → Ends table most growth.root (record { arena = growth.arena; bound = bound; known = growth.known })
+    → Ends table most (record { arena = growth.arena; bound = bound; known = growth.known; found = growth.found })
 ends_spent table most bound number unit growth valid taken free past =
     let nodes = growth.arena.nodes.items in
     let links = growth.arena.links.items in
@@ -148,13 +180,15 @@ ends_spent table most bound number unit growth valid taken free past =
     }) in
     record {
       ids = ids;
+      there = λ j low. each_there j tree [] (omega (arith, grown.is.once j low));
       order = order;
       as_many = grown.is.as_many;
       nodes = taken.nodes;
       each = grown.each;
       known = taken.known;
       shows = subst (λ (b : Option ℕ). Walks table (unfixed table) (map (node_of nodes) ids) (Shows b [])) is walks;
-      at_least = top_open.at_least;
+      time = omega (arith, taken.founded.time_is, taken.founded.least, top_open.at_least);
+      buffers = λ fit other is_bound. omega (arith, taken.founded.buffers fit other is_bound, top_open.at_least);
       at_most = omega (arith, taken.below);
       spent = λ less. spent;
     }

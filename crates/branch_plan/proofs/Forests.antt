@@ -73,14 +73,14 @@ one_of : {P : Type 0} (test : Bool) (rest : ℕ) → 0 < cond test 1 0 + rest �
 one_of true rest some here_is later_is = here_is refl
 one_of false rest some here_is later_is = later_is (omega (arith, some))
 
-in_leaf : {P : Type 0} (other id rest : ℕ) → 0 < cond (other == id) 1 0 + rest → (other ≡ id → P) → (0 < rest → P) → P
+pub in_leaf : {P : Type 0} (other id rest : ℕ) → 0 < cond (other == id) 1 0 + rest → (other ≡ id → P) → (0 < rest → P) → P
 in_leaf other id rest some first later = one_of (other == id) rest some (λ same. first (eqb-true other id same)) later
 
 one_of_two : {P : Type 0} (a b : ℕ) → 0 < a + b → (0 < a → P) → (0 < b → P) → P
 one_of_two zero b some first second = second (omega (arith, some))
 one_of_two (suc a) b some first second = first (omega arith)
 
-in_branch : {P : Type 0} (other id a b : ℕ) → 0 < cond (other == id) 1 0 + (a + b) → (other ≡ id → P) → (0 < a → P) → (0 < b → P) → P
+pub in_branch : {P : Type 0} (other id a b : ℕ) → 0 < cond (other == id) 1 0 + (a + b) → (other ≡ id → P) → (0 < a → P) → (0 < b → P) → P
 in_branch other id a b some first second third = one_of (other == id) (a + b) some (λ same. first (eqb-true other id same)) (λ rest. one_of_two a b rest second third)
 
 -- what is at most the bound of each leaf is at most the least one

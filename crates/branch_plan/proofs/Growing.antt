@@ -1,5 +1,5 @@
 -- Children one after the other, and the tree with them.
-use Rattle.std.proofs.Common.{◌≡◌, ◌≢◌, ℕ, ◌+◌, ◌-◌, ◌<◌, ◌≤◌, ◌==◌, ◌⊎◌, inl, inr, Bool, true, false, cond, List, [], ◌∷◌, ◌++◌, length, set, Option, Some, None, refl, sym, ap, subst, ◌∙◌, arith}
+use Rattle.std.proofs.Common.{◌≡◌, ◌≢◌, ℕ, ◌+◌, ◌-◌, ◌<◌, ◌≤◌, ◌==◌, ◌⊎◌, inl, inr, Bool, true, false, cond, List, [], ◌∷◌, ◌++◌, length, set, Option, Some, None, refl, sym, ap, subst, ◌∙◌, mul-zero, arith}
 use Rattle.std.specs.List.{Contains}
 use Rattle.std.specs.List.Sorted.{IsPermutation}
 use Rattle.std.specs.declared.cmp.Reverse.{Reverse}
@@ -7,22 +7,19 @@ use Rattle.std.proofs.lemmas.Bool.{cases_eq, cases_lt}
 use Rattle.std.proofs.lemmas.List.{get_or_append_left, get_or_at, length-append}
 use Rattle.std.proofs.lemmas.List.Sorted.{Contains-permutation, IsPermutation-sym}
 use Rattle.version_table.specs.declared.table.Table.{Table}
-use Rattle.dual_bounds.specs.declared.windows.Window.{Window as PricedWindow}
-use Rattle.dual_bounds.specs.Bounds.{bound_of_value}
-use Rattle.dual_bounds.specs.Values.{value_of_windows}
-use Rattle.multiplier_search.specs.Windows.{AreSearched}
 use Rattle.bound_certificate.specs.declared.cert.Node.{Node}
 use Rattle.bound_certificate.specs.declared.cert.Node.TheVariants.{Branch, Open}
 use Rattle.certificate_checker.specs.Checked.{IsAtMost}
 use Rattle.certificate_checker.specs.Faults.{IsRight}
-use Rattle.certificate_checker.specs.Shown.{bound_of_leaf, fix, versions_of, windows_in}
+use Rattle.certificate_checker.specs.Shown.{bound_of_leaf, fix, versions_of}
 use Rattle.certificate_checker.specs.Walk.{IsLeaf}
 use Rattle.branch_plan.specs.declared.arena.Link.{Link}
 use Rattle.branch_plan.specs.declared.leaves.Leaf.{Leaf}
-use Rattle.branch_plan.specs.Private.Branching.{AreChildren, AreLinkedBehind, IsGrown, IsOpenAt, IsSettledIn, IsWith, MayStand, times_in}
+use Rattle.branch_plan.specs.Private.Branching.{AreChildren, AreLinkedBehind, IsGrown, IsOpenAt, IsSettledIn, IsWith, times_in}
 use Rattle.branch_plan.specs.Private.Forest.{leaves, split}
 use Rattle.branch_plan.specs.Private.Growth.{node_of}
-use Rattle.branch_plan.specs.Private.Leaves.{IsFreeUnit, IsLeafOn, IsSettledBy, MayBranch}
+use Rattle.branch_plan.specs.Private.Leaves.{IsFreeUnit, IsLeafOn, IsSettledBy, MayBranch, MayStand}
+use Rattle.branch_plan.specs.Private.Found.{AreSearchedIn, IsNoLower}
 use Rattle.branch_plan.proofs.Branched.{AreMade, branch_node, long_with, new_node, new_path, old_node, old_path, paths_with, tree_branched}
 use Rattle.branch_plan.proofs.Forests.{branch_no_leaf}
 use Rattle.branch_plan.proofs.Opens.{contains_first, contains_more, first_or_more, other_none, self_one, times-more, times_none, times_permuted, times_some}
@@ -31,9 +28,9 @@ abbrev Leaves : Type 0
 Leaves = List (Reverse (ℕ × ℕ))
 
 -- ---- no child yet
-pub no_children : (table : Table) (most : ℕ) (windows : List PricedWindow) (fixed : List (Option ℕ)) (unit first : ℕ) (made : List Node) (leaves : Leaves) (distortion : ℕ) → made ≡ []
-    → AreChildren table most windows fixed unit first 0 made leaves leaves distortion
-no_children table most windows fixed unit first made leaves distortion none =
+pub no_children : (table : Table) (most floor : ℕ) (fixed : List (Option ℕ)) (unit first : ℕ) (made : List Node) (leaves : Leaves) (distortion : ℕ) → made ≡ []
+    → AreChildren table most floor fixed unit first 0 made leaves leaves distortion
+no_children table most floor fixed unit first made leaves distortion none =
     record {
       count = ap length none;
       is = λ j low. absurd (omega (arith, low));
@@ -85,84 +82,79 @@ settled_more : (table : Table) (fixed : List (Option ℕ)) (unit first : ℕ) (l
 settled_more table fixed unit first leaves more old new j node less kept (inl most) = inl (lower_bound new old (bound_of_leaf table (fix unit j fixed) node) less most)
 settled_more table fixed unit first leaves more old new j node less kept (inr (leaf, there, number, is)) = inr (leaf, kept leaf there, number, is)
 
-settled_own : (table : Table) (fixed : List (Option ℕ)) (unit first k number : ℕ) (windows : List PricedWindow) (leaves more : Leaves) (distortion : ℕ) (node : Node) (bound : Option ℕ)
-    → number ≡ first + k → IsWith bound number leaves more → IsSettledBy table (fix unit k fixed) windows distortion node bound → IsSettledChild table fixed unit first more distortion k node
-settled_own table fixed unit first k number windows leaves more distortion node None number_is with_is settled = inl settled
-settled_own table fixed unit first k number windows leaves more distortion node (Some bound) number_is with_is settled =
+settled_own : (table : Table) (fixed : List (Option ℕ)) (unit first k number : ℕ) (leaves more : Leaves) (distortion : ℕ) (node : Node) (bound : Option ℕ)
+    → number ≡ first + k → IsWith bound number leaves more → IsSettledBy table (fix unit k fixed) distortion node bound → IsSettledChild table fixed unit first more distortion k node
+settled_own table fixed unit first k number leaves more distortion node None number_is with_is settled = inl settled
+settled_own table fixed unit first k number leaves more distortion node (Some bound) number_is with_is settled =
     let new = with_is.new bound refl in
     inr (new.0, new.1, new.3 ∙ number_is, settled.bound_is ∙ ap Some (sym new.2))
 
 -- a leaf that may be branched is from before, or a child's
-abbrev IsFromChild : Table → (windows : List PricedWindow) → (fixed : List (Option ℕ)) → (unit first k : ℕ) → (made : List Node) → Reverse (ℕ × ℕ) → Type 0
-IsFromChild table windows fixed unit first k made leaf =
-    (j : ℕ) × (j < k) × (leaf.0.1 ≡ first + j) × MayBranch table (fix unit j fixed) (windows_in (node_of made j)) (node_of made j) leaf.0.0
-    × (bound_of_value (value_of_windows table fixed windows) ≤ leaf.0.0) × AreSearched (windows_in (node_of made j))
+abbrev IsFromChild : Table → (floor : ℕ) → (fixed : List (Option ℕ)) → (unit first k : ℕ) → (made : List Node) → Reverse (ℕ × ℕ) → Type 0
+IsFromChild table floor fixed unit first k made leaf =
+    (j : ℕ) × (j < k) × (leaf.0.1 ≡ first + j) × MayBranch table (fix unit j fixed) (node_of made j) leaf.0.0 × (floor ≤ leaf.0.0) × AreSearchedIn table (node_of made j)
 
-from_more : (table : Table) (windows : List PricedWindow) (fixed : List (Option ℕ)) (unit first k : ℕ) (made : List Node) (node : Node) (leaf : Reverse (ℕ × ℕ)) → length made ≡ k
-    → IsFromChild table windows fixed unit first k made leaf → IsFromChild table windows fixed unit first (k + 1) (made ++ node ∷ []) leaf
-from_more table windows fixed unit first k made node leaf long (j, low, number, may, at_least, searched) =
+from_more : (table : Table) (floor : ℕ) (fixed : List (Option ℕ)) (unit first k : ℕ) (made : List Node) (node : Node) (leaf : Reverse (ℕ × ℕ)) → length made ≡ k
+    → IsFromChild table floor fixed unit first k made leaf → IsFromChild table floor fixed unit first (k + 1) (made ++ node ∷ []) leaf
+from_more table floor fixed unit first k made node leaf long (j, low, number, may, at_least, searched) =
     let same = sym (node_kept made node j (omega (arith, low, long))) in (
       j,
       omega (arith, low),
       number,
-      subst (λ (n : Node). MayBranch table (fix unit j fixed) (windows_in n) n leaf.0.0) same may,
+      subst (λ (n : Node). MayBranch table (fix unit j fixed) n leaf.0.0) same may,
       at_least,
-      subst (λ (n : Node). AreSearched (windows_in n)) same searched,
+      subst (λ (n : Node). AreSearchedIn table n) same searched,
     )
 
-from_own : (table : Table) (windows own : List PricedWindow) (fixed : List (Option ℕ)) (unit first k number : ℕ) (made : List Node) (node : Node) (bound : Option ℕ) (distortion : ℕ)
-    (leaf : Reverse (ℕ × ℕ)) → length made ≡ k → number ≡ first + k → IsSettledBy table (fix unit k fixed) own distortion node bound → AreSearched own
-    → bound_of_value (value_of_windows table fixed windows) ≤ bound_of_value (value_of_windows table (fix unit k fixed) own) → bound ≡ Some leaf.0.0 → leaf.0.1 ≡ number
-    → IsFromChild table windows fixed unit first (k + 1) (made ++ node ∷ []) leaf
-from_own table windows own fixed unit first k number made node None distortion leaf long number_is settled searched value is place = absurd (grind (arith, is))
-from_own table windows own fixed unit first k number made node (Some bound) distortion leaf long number_is settled searched value is place =
+from_own : (table : Table) (floor : ℕ) (fixed : List (Option ℕ)) (unit first k number : ℕ) (made : List Node) (node : Node) (bound : Option ℕ) (distortion : ℕ)
+    (leaf : Reverse (ℕ × ℕ)) → length made ≡ k → number ≡ first + k → IsSettledBy table (fix unit k fixed) distortion node bound → AreSearchedIn table node → IsNoLower floor bound
+    → bound ≡ Some leaf.0.0 → leaf.0.1 ≡ number → IsFromChild table floor fixed unit first (k + 1) (made ++ node ∷ []) leaf
+from_own table floor fixed unit first k number made node None distortion leaf long number_is settled searched least is place = absurd (grind (arith, is))
+from_own table floor fixed unit first k number made node (Some bound) distortion leaf long number_is settled searched least is place =
     let same : node ≡ node_of (made ++ node ∷ []) k = sym (node_new made node k k long refl) in
     let bound_same : bound ≡ leaf.0.0 = some_same bound leaf.0.0 is in
-    let may : MayBranch table (fix unit k fixed) (windows_in node) node leaf.0.0 =
-    subst (λ (b : ℕ). MayBranch table (fix unit k fixed) (windows_in node) node b) bound_same
-    (subst (λ (ws : List PricedWindow). MayBranch table (fix unit k fixed) ws node bound) (sym settled.windows_are) settled) in (
+    let may : MayBranch table (fix unit k fixed) node leaf.0.0 = subst (λ (b : ℕ). MayBranch table (fix unit k fixed) node b) bound_same settled in (
       k,
       omega arith,
       place ∙ number_is,
-      subst (λ (n : Node). MayBranch table (fix unit k fixed) (windows_in n) n leaf.0.0) same may,
-      omega (arith, value, settled.value, bound_same),
-      subst (λ (n : Node). AreSearched (windows_in n)) same (subst (λ (ws : List PricedWindow). AreSearched ws) (sym settled.windows_are) searched),
+      subst (λ (n : Node). MayBranch table (fix unit k fixed) n leaf.0.0) same may,
+      omega (arith, least, bound_same),
+      subst (λ (n : Node). AreSearchedIn table n) same searched,
     )
   where
     some_same : (a b : ℕ) → Some a ≡ Some b → a ≡ b
     some_same a b e = grind (arith, e)
 
-pub one_more_child : (table : Table) (most : ℕ) (windows own : List PricedWindow) (fixed : List (Option ℕ)) (unit first k number old : ℕ) (made new_made : List Node) (before leaves more : Leaves)
-    (leaf : Leaf) → AreChildren table most windows fixed unit first k made before leaves old → number ≡ first + k → IsLeafOn table (fix unit k fixed) own old leaf
-    → new_made ≡ made ++ leaf.node ∷ [] → IsWith leaf.bound number leaves more → MayStand table most leaf.node → AreSearched own
-    → bound_of_value (value_of_windows table fixed windows) ≤ bound_of_value (value_of_windows table (fix unit k fixed) own)
-    → AreChildren table most windows fixed unit first (k + 1) new_made before more leaf.known.distortion
-one_more_child table most windows own fixed unit first k number old made new_made before leaves more leaf are number_is is made_is with_is stand searched value =
-    subst (λ (ns : List Node). AreChildren table most windows fixed unit first (k + 1) ns before more leaf.known.distortion) (sym made_is) (record {
+pub one_more_child : (table : Table) (most floor : ℕ) (fixed : List (Option ℕ)) (unit first k number old : ℕ) (made new_made : List Node) (before leaves more : Leaves)
+    (leaf : Leaf) → AreChildren table most floor fixed unit first k made before leaves old → number ≡ first + k → IsLeafOn table most (fix unit k fixed) old leaf
+    → new_made ≡ made ++ leaf.node ∷ [] → IsWith leaf.bound number leaves more → IsNoLower floor leaf.bound
+    → AreChildren table most floor fixed unit first (k + 1) new_made before more leaf.known.distortion
+one_more_child table most floor fixed unit first k number old made new_made before leaves more leaf are number_is is made_is with_is least =
+    subst (λ (ns : List Node). AreChildren table most floor fixed unit first (k + 1) ns before more leaf.known.distortion) (sym made_is) (record {
       count = omega (arith, length-append made (leaf.node ∷ []), are.count);
       is = each_more (λ j n. IsLeaf n) made leaf.node k are.count are.is is.is;
       right = each_more (λ j n. IsRight table (fix unit j fixed) n) made leaf.node k are.count are.right is.right;
-      each = each_more (λ j n. MayStand table most n) made leaf.node k are.count are.each stand;
+      each = each_more (λ j n. MayStand table most n) made leaf.node k are.count are.each is.stands;
       settled =
           each_more (λ j n. IsSettledChild table fixed unit first more leaf.known.distortion j n) made leaf.node k are.count
           (λ j low. settled_more table fixed unit first leaves more old leaf.known.distortion j (node_of made j) is.kept with_is.kept (are.settled j low))
-          (settled_own table fixed unit first k number own leaves more leaf.known.distortion leaf.node leaf.bound number_is with_is is.bound);
+          (settled_own table fixed unit first k number leaves more leaf.known.distortion leaf.node leaf.bound number_is with_is is.bound);
       kept = λ other there. with_is.kept other (are.kept other there);
       only = λ other there. only_in other (with_is.only other there);
       outside = λ j where_is. outside_in j where_is;
       inside = λ j. inside_in j (cases_eq number j);
     })
   where
-    only_old : (other : Reverse (ℕ × ℕ)) → Contains before other ⊎ IsFromChild table windows fixed unit first k made other
-        → Contains before other ⊎ IsFromChild table windows fixed unit first (k + 1) (made ++ leaf.node ∷ []) other
+    only_old : (other : Reverse (ℕ × ℕ)) → Contains before other ⊎ IsFromChild table floor fixed unit first k made other
+        → Contains before other ⊎ IsFromChild table floor fixed unit first (k + 1) (made ++ leaf.node ∷ []) other
     only_old other (inl there) = inl there
-    only_old other (inr from) = inr (from_more table windows fixed unit first k made leaf.node other are.count from)
+    only_old other (inr from) = inr (from_more table floor fixed unit first k made leaf.node other are.count from)
 
     only_in : (other : Reverse (ℕ × ℕ)) → Contains leaves other ⊎ ((leaf.bound ≡ Some other.0.0) × (other.0.1 ≡ number))
-        → Contains before other ⊎ IsFromChild table windows fixed unit first (k + 1) (made ++ leaf.node ∷ []) other
+        → Contains before other ⊎ IsFromChild table floor fixed unit first (k + 1) (made ++ leaf.node ∷ []) other
     only_in other (inl there) = only_old other (are.only other there)
     only_in other (inr new) =
-        inr (from_own table windows own fixed unit first k number made leaf.node leaf.bound leaf.known.distortion other are.count number_is is.bound searched value new.0 new.1)
+        inr (from_own table floor fixed unit first k number made leaf.node leaf.bound leaf.known.distortion other are.count number_is is.bound is.searched least new.0 new.1)
 
     apart : (j : ℕ) → (j < first) ⊎ (first + (k + 1) ≤ j) → number ≢ j
     apart j (inl low) same = omega (arith, low, same, number_is)
@@ -214,30 +206,47 @@ settled_child table new_nodes made new_path fixed unit first more distortion j k
     )
 
 open_at : (table : Table) (nodes : List Node) (path : ℕ → List (Option ℕ)) (root bound j : ℕ) (node : Node) (fixed : List (Option ℕ)) → j < length nodes → node_of nodes j ≡ node → path j ≡ fixed
-    → IsLeaf node → MayBranch table fixed (windows_in node) node bound → root ≤ bound → AreSearched (windows_in node) → IsOpenAt table nodes path root bound j
+    → IsLeaf node → MayBranch table fixed node bound → root ≤ bound → AreSearchedIn table node → IsOpenAt table nodes path root bound j
 open_at table nodes path root bound j node fixed within node_is path_is leaf may at_least searched = record {
   within = within;
   leaf = subst (λ (n : Node). IsLeaf n) (sym node_is) leaf;
   may =
-      subst (λ (f : List (Option ℕ)). MayBranch table f (windows_in (node_of nodes j)) (node_of nodes j) bound) (sym path_is)
-      (subst (λ (n : Node). MayBranch table fixed (windows_in n) n bound) (sym node_is) may);
+      subst (λ (f : List (Option ℕ)). MayBranch table f (node_of nodes j) bound) (sym path_is)
+      (subst (λ (n : Node). MayBranch table fixed n bound) (sym node_is) may);
   at_least = at_least;
-  searched = subst (λ (n : Node). AreSearched (windows_in n)) (sym node_is) searched;
+  searched = subst (λ (n : Node). AreSearchedIn table n) (sym node_is) searched;
+}
+
+-- leaves that keep to a bound keep to a lower one
+pub open_lower : (table : Table) (nodes : List Node) (path : ℕ → List (Option ℕ)) (root floor bound j : ℕ) → floor ≤ root → IsOpenAt table nodes path root bound j
+    → IsOpenAt table nodes path floor bound j
+open_lower table nodes path root floor bound j less is =
+    record { within = is.within; leaf = is.leaf; may = is.may; at_least = omega (arith, less, is.at_least); searched = is.searched }
+
+unfoldable pub grown_lower : (table : Table) (most root floor : ℕ) (nodes : List Node) (links : List Link) (leaves : Leaves) (distortion : ℕ) → floor ≤ root
+    → IsGrown table most root nodes links leaves distortion → IsGrown table most floor nodes links leaves distortion
+grown_lower table most root floor nodes links leaves distortion less is = record {
+  path = is.path;
+  tree = is.tree;
+  is = is.is;
+  each = is.each;
+  settled = is.settled;
+  are_open = λ leaf there. open_lower table nodes is.path root floor leaf.0.0 leaf.0.1 less (is.are_open leaf there);
+  single = is.single;
 }
 
 -- all that the tree with one more branch is made of
 pub record AreGrowing (table : Table) (most root : ℕ) (nodes : List Node) (links new_links : List Link) (all before more : Leaves) (top : Reverse (ℕ × ℕ)) (old new i unit : ℕ)
-    (windows : List PricedWindow) (made : List Node) (grown : IsGrown table most root nodes links all old) : Type 0 where
+    (made : List Node) (grown : IsGrown table most root nodes links all old) : Type 0 where
   pub taken : IsPermutation all (top ∷ before)
   pub top_is : top.0.1 ≡ i
   pub free : IsFreeUnit table (grown.path i) unit
-  pub children : AreChildren table most windows (grown.path i) unit (length nodes) (versions_of table unit) made before more new
+  pub children : AreChildren table most root (grown.path i) unit (length nodes) (versions_of table unit) made before more new
   pub linked : AreLinkedBehind i unit (versions_of table unit) links new_links
   pub kept : new ≤ old
-  pub at_least : root ≤ bound_of_value (value_of_windows table (grown.path i) windows)
 
 branch_may : (table : Table) (most unit : ℕ) → 2 ≤ versions_of table unit → MayStand table most (Branch unit)
-branch_may table most unit many = record { many = many; version = tt; windows = omega arith; few = λ high. omega arith }
+branch_may table most unit many = record { many = many; version = tt; windows = omega arith; few = λ high. omega arith; buffers = omega (arith, mul-zero most) }
 
 each_grown : (table : Table) (most : ℕ) (nodes made : List Node) (i unit j : ℕ) → ((j : ℕ) → j < length nodes → MayStand table most (node_of nodes j))
     → ((k : ℕ) → k < length made → MayStand table most (node_of made k)) → i < length nodes → 2 ≤ versions_of table unit → j < length nodes + length made
@@ -252,11 +261,11 @@ each_grown table most nodes made i unit j old kids within many low (inr new_is) 
     subst (λ (n : Node). MayStand table most n) (sym (new_node nodes made i j (j - length nodes) (Branch unit) (omega (arith, new_is)))) (kids (j - length nodes) (omega (arith, low, new_is)))
 
 settled_grown : (table : Table) (most root : ℕ) (nodes : List Node) (links new_links : List Link) (all before more : Leaves) (top : Reverse (ℕ × ℕ)) (old new i unit : ℕ)
-    (windows : List PricedWindow) (made : List Node) (grown : IsGrown table most root nodes links all old)
-    → AreGrowing table most root nodes links new_links all before more top old new i unit windows made grown → i < length nodes → (j : ℕ) → j < length nodes + length made
+    (made : List Node) (grown : IsGrown table most root nodes links all old)
+    → AreGrowing table most root nodes links new_links all before more top old new i unit made grown → i < length nodes → (j : ℕ) → j < length nodes + length made
     → IsLeaf (node_of (set nodes i (Branch unit) ++ made) j) → (j < length nodes) ⊎ (length nodes ≤ j)
     → IsSettledIn table (set nodes i (Branch unit) ++ made) (paths_with (length nodes) unit (grown.path i) grown.path) more new j
-settled_grown table most root nodes links new_links all before more top old new i unit windows made grown are within j low leaf (inl old_is) =
+settled_grown table most root nodes links new_links all before more top old new i unit made grown are within j low leaf (inl old_is) =
     elim (cases_eq j i) as (λ _. IsSettledIn table (set nodes i (Branch unit) ++ made) (paths_with (length nodes) unit (grown.path i) grown.path) more new j) [
       | inl same ↦
           absurd (branch_no_leaf (node_of (set nodes i (Branch unit) ++ made) j) unit (ap (node_of (set nodes i (Branch unit) ++ made)) same ∙ branch_node nodes made i (Branch unit) within) leaf)
@@ -271,7 +280,7 @@ settled_grown table most root nodes links new_links all before more top old new 
     kept_other : (other : Reverse (ℕ × ℕ)) → other.0.1 ≡ j → j ≢ i → (other ≡ top) ⊎ Contains before other → Contains more other
     kept_other other number differs (inl is) = absurd (differs (sym number ∙ ap (λ (l : Reverse (ℕ × ℕ)). l.0.1) is ∙ are.top_is))
     kept_other other number differs (inr there) = are.children.kept other there
-settled_grown table most root nodes links new_links all before more top old new i unit windows made grown are within j low leaf (inr new_is) =
+settled_grown table most root nodes links new_links all before more top old new i unit made grown are within j low leaf (inr new_is) =
     let k = j - length nodes in
     let place : j ≡ length nodes + k = omega (arith, new_is) in
     settled_child table (set nodes i (Branch unit) ++ made) made (paths_with (length nodes) unit (grown.path i) grown.path) (grown.path i) unit (length nodes) more new j k place
@@ -279,28 +288,28 @@ settled_grown table most root nodes links new_links all before more top old new 
     (are.children.settled k (omega (arith, low, new_is, are.children.count)))
 
 open_grown : (table : Table) (most root : ℕ) (nodes : List Node) (links new_links : List Link) (all before more : Leaves) (top : Reverse (ℕ × ℕ)) (old new i unit : ℕ)
-    (windows : List PricedWindow) (made : List Node) (grown : IsGrown table most root nodes links all old)
-    → AreGrowing table most root nodes links new_links all before more top old new i unit windows made grown → times_in i before ≡ 0 → (leaf : Reverse (ℕ × ℕ))
-    → Contains before leaf ⊎ IsFromChild table windows (grown.path i) unit (length nodes) (versions_of table unit) made leaf
+    (made : List Node) (grown : IsGrown table most root nodes links all old)
+    → AreGrowing table most root nodes links new_links all before more top old new i unit made grown → times_in i before ≡ 0 → (leaf : Reverse (ℕ × ℕ))
+    → Contains before leaf ⊎ IsFromChild table root (grown.path i) unit (length nodes) (versions_of table unit) made leaf
     → IsOpenAt table (set nodes i (Branch unit) ++ made) (paths_with (length nodes) unit (grown.path i) grown.path) root leaf.0.0 leaf.0.1
-open_grown table most root nodes links new_links all before more top old new i unit windows made grown are gone leaf (inl there) =
+open_grown table most root nodes links new_links all before more top old new i unit made grown are gone leaf (inl there) =
     let is = grown.are_open leaf (Contains-permutation (top ∷ before) all leaf (IsPermutation-sym all (top ∷ before) are.taken) (contains_more top leaf before there)) in
     let j = leaf.0.1 in
     let differs : j ≢ i = (λ same. omega (arith, gone, times_some i before leaf there same)) in
     open_at table (set nodes i (Branch unit) ++ made) (paths_with (length nodes) unit (grown.path i) grown.path) root leaf.0.0 j (node_of nodes j) (grown.path j)
     (omega (arith, is.within, long_with nodes made i (Branch unit))) (old_node nodes made i j (Branch unit) is.within differs) (old_path (length nodes) unit (grown.path i) grown.path j is.within)
     is.leaf is.may is.at_least is.searched
-open_grown table most root nodes links new_links all before more top old new i unit windows made grown are gone leaf (inr (k, low, number, may, at_least, searched)) =
+open_grown table most root nodes links new_links all before more top old new i unit made grown are gone leaf (inr (k, low, number, may, at_least, searched)) =
     let j = leaf.0.1 in
     open_at table (set nodes i (Branch unit) ++ made) (paths_with (length nodes) unit (grown.path i) grown.path) root leaf.0.0 j (node_of made k) (fix unit k (grown.path i))
     (omega (arith, low, number, are.children.count, long_with nodes made i (Branch unit))) (new_node nodes made i j k (Branch unit) number)
-    (new_path (length nodes) unit (grown.path i) grown.path j k number) (are.children.is k low) may (omega (arith, at_least, are.at_least)) searched
+    (new_path (length nodes) unit (grown.path i) grown.path j k number) (are.children.is k low) may at_least searched
 
 pub grown_branched : (table : Table) (most root : ℕ) (nodes : List Node) (links new_links : List Link) (all before more : Leaves) (top : Reverse (ℕ × ℕ)) (old new i unit : ℕ)
-    (windows : List PricedWindow) (made : List Node) (grown : IsGrown table most root nodes links all old)
-    → AreGrowing table most root nodes links new_links all before more top old new i unit windows made grown
+    (made : List Node) (grown : IsGrown table most root nodes links all old)
+    → AreGrowing table most root nodes links new_links all before more top old new i unit made grown
     → IsGrown table most root (set nodes i (Branch unit) ++ made) new_links more new
-grown_branched table most root nodes links new_links all before more top old new i unit windows made grown are =
+grown_branched table most root nodes links new_links all before more top old new i unit made grown are =
     let n = length nodes in
     let path = grown.path in
     let kids = are.children in
@@ -326,9 +335,9 @@ grown_branched table most root nodes links new_links all before more top old new
       tree = split i unit (leaves n (length made)) grown.tree;
       is = tree_branched table nodes links new_links path grown.tree i unit made grown.is made_are linked;
       each = λ j low. each_grown table most nodes made i unit j grown.each (λ k below. kids.each k (omega (arith, below, v_is))) top_open.within are.free.2 (omega (arith, low, long)) (cases_lt j n);
-      settled = λ j low leaf. settled_grown table most root nodes links new_links all before more top old new i unit windows made grown are top_open.within j (omega (arith, low, long)) leaf
+      settled = λ j low leaf. settled_grown table most root nodes links new_links all before more top old new i unit made grown are top_open.within j (omega (arith, low, long)) leaf
           (cases_lt j n);
-      are_open = λ leaf there. open_grown table most root nodes links new_links all before more top old new i unit windows made grown are gone leaf (kids.only leaf there);
+      are_open = λ leaf there. open_grown table most root nodes links new_links all before more top old new i unit made grown are gone leaf (kids.only leaf there);
       single = λ j. elim (cases_lt j n) as (λ _. times_in j more ≤ 1) [
         | inl low ↦ omega (arith, kids.outside j (inl low), times_all j)
         | inr high ↦ omega (arith, kids.inside j, high_none j high)

@@ -4,17 +4,19 @@ pub mod Branched
 pub mod Certs
 pub mod Changing
 pub mod Counting
+pub mod Debts
 pub mod Ending
 pub mod Enough
 pub mod Examples
 pub mod Forests
-pub mod FreeRuns
 pub mod Growing
 pub mod Linking
 pub mod Opens
+pub mod Owned
 pub mod Premises
+pub mod Priced
+pub mod Reaching
 pub mod Roots
-mod SeenTrees
 pub mod Splits
 pub mod Stepping
 pub mod Trying

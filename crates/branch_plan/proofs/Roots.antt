@@ -1,5 +1,5 @@
 -- A tree of one node with windows: what it shows, and how great its bound is at least.
-use Rattle.std.proofs.Common.{◌≡◌, ◌≢◌, ℕ, ◌<◌, ◌≤◌, ◌⊎◌, List, [], ◌∷◌, length, map, All, Option, Some, sym, ap₂, subst, inl, inr, arith, ◌≤ℤ◌}
+use Rattle.std.proofs.Common.{◌≡◌, ◌≢◌, ℕ, ◌<◌, ◌≤◌, ◌⊎◌, List, [], ◌∷◌, length, map, All, Option, Some, refl, sym, ap₂, subst, ◌∙◌, inl, inr, arith, ◌≤ℤ◌}
 use Rattle.std.specs.List.{Contains}
 use Rattle.std.proofs.lemmas.Int.{ints}
 use Rattle.std.proofs.lemmas.List.Elements.{All-cons}
@@ -7,6 +7,13 @@ use Rattle.arrayvec.specs.ArrayVec.{ArrayVec}
 use Rattle.version_table.specs.declared.table.Unit.{Unit as CodedUnit}
 use Rattle.version_table.specs.declared.table.Table.{Table}
 use Rattle.version_table.specs.Table.{IsValidTable, units_of}
+use Rattle.version_table.specs.Choice.{Fits, distortion_of_choice}
+use Rattle.slot_rule.specs.Schedule.{IsScheduled}
+use Rattle.buffer_windows.specs.declared.windows.BufferWindow.{BufferWindow as SeeingWindow}
+use Rattle.multiplier_search.specs.Buffered.{AreSearchedBuffered}
+use Rattle.branch_plan.specs.declared.found.Found.{Found}
+use Rattle.branch_plan.specs.Private.Found.{IsSound, ReachesBoth}
+use Rattle.branch_plan.proofs.Reaching.{few_where}
 use Rattle.dual_bounds.specs.declared.constants.TheConstants.{WINDOWS_MOST}
 use Rattle.dual_bounds.specs.declared.windows.Multiplier.{Multiplier}
 use Rattle.dual_bounds.specs.declared.windows.Window.{Window as PricedWindow}
@@ -17,13 +24,13 @@ use Rattle.multiplier_search.specs.Single.{IsBestSingle, IsFirstBest, IsNoWorseM
 use Rattle.multiplier_search.specs.Turns.{BeatAdditions}
 use Rattle.multiplier_search.specs.Windows.{AreSearched, BeatEachTried}
 use Rattle.bound_certificate.specs.declared.cert.Cert.{Cert}
-use Rattle.bound_certificate.specs.declared.cert.Node.TheVariants.{Window}
+use Rattle.bound_certificate.specs.declared.cert.Node.TheVariants.{Window, BufferWindow}
 use Rattle.certificate_checker.specs.Shown.{unfixed}
-use Rattle.certificate_checker.specs.Faults.{AreRight, IsHeadRight}
+use Rattle.certificate_checker.specs.Faults.{AreRight, AreRightBufferWindows, IsHeadRight}
 use Rattle.certificate_checker.specs.Walk.{Shows, Walks, leaf}
 use Rattle.certificate_checker.specs.Checked.{IsFaultless}
 use Rattle.certificate_checker.proofs.Soundness.{faultless_bound}
-use Rattle.branch_plan.specs.Bound.{IsAtLeastEachPair, IsAtLeastEachTried, unit_dues}
+use Rattle.branch_plan.specs.Bound.{IsAtLeastEachPair, IsAtLeastEachTried, bound_where_few, unit_dues}
 use Rattle.branch_plan.specs.Plan.{ShowsItsBound}
 use Rattle.branch_plan.specs.declared.known.Known.{Known}
 use Rattle.branch_plan.specs.Private.Known.{IsKnown}
@@ -50,6 +57,62 @@ root_at_most table priced known valid searched is =
     let head : IsHeadRight table cert = record { fits = is.fits; scheduled = is.scheduled; distortion = is.distortion } in
     let right : IsFaultless table cert = faultless table cert head (root_shows table priced searched) in
     subst (λ (n : ℕ). bound ≤ n) (sym is.distortion) (faultless_bound table cert valid right known.choice is.fits is.scheduled)
+
+-- the same of windows that see the buffers
+pub right_buffered : (table : Table) (windows : List SeeingWindow) → AreSearchedBuffered table windows → AreRightBufferWindows table windows
+right_buffered table windows searched =
+    record {
+      rise = searched.rise;
+      some = λ k d within. (searched.sound k d within).allowed;
+      programs = λ k d within. (searched.sound k d within).programs;
+      limit = λ k d within. (searched.sound k d within).lambda;
+    }
+
+pub seen_at_most : (table : Table) (most : ℕ) (windows : List SeeingWindow) (bound : ℕ) (known : Known) → IsValidTable table → AreSearchedBuffered table windows
+    → bound_where_few table most (unfixed table) windows ≡ Some bound → IsKnown table known → bound ≤ known.distortion
+seen_at_most table most windows bound known valid searched seen is =
+    let shown = (few_where table most (unfixed table) windows bound seen).1 in
+    let cert : Cert = record { version = 3; bound = bound; distortion = known.distortion; choice = known.choice; nodes = BufferWindow windows ∷ [] } in
+    let head : IsHeadRight table cert = record { fits = is.fits; scheduled = is.scheduled; distortion = is.distortion } in
+    let shows = subst (λ (b : Option ℕ). Walks table (unfixed table) (BufferWindow windows ∷ []) (Shows b [])) shown
+    (leaf (unfixed table) (BufferWindow windows) [] tt (right_buffered table windows searched)) in
+    let right : IsFaultless table cert = faultless table cert head shows in
+    subst (λ (n : ℕ). bound ≤ n) (sym is.distortion) (faultless_bound table cert valid right known.choice is.fits is.scheduled)
+
+-- ---- the greater bound of both kinds
+of_choice : (table : Table) (choice : List ℕ) → Known
+of_choice table choice = record { choice = choice; distortion = distortion_of_choice table choice }
+
+known_is : (table : Table) (choice : List ℕ) → Fits table choice → IsScheduled table choice → IsKnown table (of_choice table choice)
+unfolding of_choice
+known_is table choice fits scheduled = record { fits = fits; scheduled = scheduled; distortion = refl }
+
+pub reaches_seen : (table : Table) (most : ℕ) (found : Found) (time bound : ℕ) → IsValidTable table → IsSound table most found
+    → bound_where_few table most (unfixed table) found.buffers ≡ Some bound → time < bound → ReachesBoth table most found time bound
+unfolding of_choice
+reaches_seen table most found time bound valid sound seen more =
+    record {
+      least = omega (arith, more);
+      buffers = λ other is. omega (arith, some_same other bound (sym is ∙ seen));
+      reached = inr (bound, seen, omega arith);
+      bounds = λ choice fits scheduled. seen_at_most table most found.buffers bound (of_choice table choice) valid sound.buffers seen (known_is table choice fits scheduled);
+    }
+  where
+    some_same : (a b : ℕ) → Some a ≡ Some b → a ≡ b
+    some_same a b e = grind (arith, e)
+
+pub reaches_time : (table : Table) (most : ℕ) (found : Found) (time : ℕ) (seen : Option ℕ) → IsValidTable table → IsSound table most found
+    → time ≡ bound_of_value (value_of_windows table (unfixed table) found.time.items) → bound_where_few table most (unfixed table) found.buffers ≡ seen
+    → ((bound : ℕ) → seen ≡ Some bound → bound ≤ time) → ReachesBoth table most found time time
+unfolding of_choice
+reaches_time table most found time seen valid sound time_is seen_is less =
+    record {
+      least = omega arith;
+      buffers = λ other is. less other (sym seen_is ∙ is);
+      reached = inl (omega (arith, time_is));
+      bounds = λ choice fits scheduled.
+          omega (arith, time_is, root_at_most table found.time (of_choice table choice) valid sound.time (known_is table choice fits scheduled));
+    }
 
 -- ---- its bound
 pub tried_bounds : (table : Table) (windows : List PricedWindow) (bound : ℕ) → BeatEachTried table (unfixed table) (unit_dues table) windows

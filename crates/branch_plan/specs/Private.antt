@@ -1,9 +1,9 @@
 pub mod Branching
 pub mod Changes
+pub mod Debt
 pub mod Forest
-pub mod Free
+pub mod Found
 pub mod Growth
 pub mod Known
 pub mod Leaves
 pub mod Root
-pub mod Seeing

@@ -1,36 +1,105 @@
+ghost use Rattle.std.specs.Prelude.{◌≤◌, ◌<◌};
+ghost use Rattle.version_table.specs.Table.{IsValidTable};
+
 use bound_certificate::Node;
+use buffer_windows::{BufferWindow, Charged, charge_of, stop};
 use dual_bounds::Window;
 use dual_bounds::constants::DISTORTION_PARTS;
+use stream_constants::decoder::EB_UNIT_BYTES;
 use stream_constants::packets::PAYLOAD_BYTES;
-use version_table::{Unit, Version};
+use version_table::{Table, Unit, Version};
 
-/// How far apart the costs of a unit's two cheapest versions lie at the prices of a leaf, in 1/256 of a distortion.
-pub(crate) fn costs_apart(unit: &Unit, leaf: &Node) -> u64 {
-    let price = price_at(leaf, unit.due);
-    let mut least = u64::MAX;
-    let mut second = u64::MAX;
-    for version in unit.versions.as_slice() {
-        let cost = cost_of(*version, price);
-        if cost < least {
-            second = least;
-            least = cost;
-        } else if cost < second {
-            second = cost;
+/// How far apart the costs of a unit's two cheapest versions lie at the prices of a leaf, in parts of a distortion. At a leaf that
+/// sees the buffers, a unit with a version that doesn't fit its buffer lies farthest.
+pub(crate) fn costs_apart(table: &Table, unit: usize, leaf: &Node) -> u64
+    requires valid { IsValidTable table.now }
+{
+    let mut rest = unit;
+    for (number, program) in table.programs.as_slice().iter().enumerate() {
+        let units = program.units.as_slice();
+        if rest < units.len() {
+            let owner = Owner {
+                slot: table.slot,
+                number,
+                vbv: program.vbv,
+            };
+            return apart_at(&units[rest], leaf, owner);
         }
+        rest -= units.len();
     }
-    second.saturating_sub(least)
+    u64::MAX
 }
 
-/// What a packet that is due at a time costs at the prices of a leaf, in 1/256 of a distortion.
-fn price_at(leaf: &Node, due: u64) -> u64 {
+/// What stands for each unit of a program.
+#[derive(Clone, Copy)]
+struct Owner {
+    /// Ticks of a slot.
+    slot: u32,
+    /// The program's number in the table.
+    number: usize,
+    /// The size of its elementary buffer in units of 2,048 bytes.
+    vbv: u8,
+}
+
+/// The same of a unit of a program.
+fn apart_at(unit: &Unit, leaf: &Node, owner: Owner) -> u64
+    requires slot { 1 ≤ owner.slot }
+    requires program { owner.number < 8 }
+{
     match leaf {
-        Node::Window { with } => price_of(with.as_slice(), due),
+        Node::Window { with } => apart_in_time(unit, price_of(with.as_slice(), unit.due)),
         Node::Branch { unit: _ } => 0,
         Node::Dual { with: _ } => 0,
         Node::Run { scheduled: _ } => 0,
         Node::Open => 0,
-        Node::BufferWindow { with: _ } => 0,
+        Node::BufferWindow { with } => apart_in_buffers(unit, with.as_slice(), owner),
     }
+}
+
+/// The two least numbers of those that were seen.
+#[derive(Clone, Copy)]
+struct Least {
+    least: u64,
+    second: u64,
+}
+
+impl Least {
+    /// None was seen.
+    fn new() -> Least {
+        Least {
+            least: u64::MAX,
+            second: u64::MAX,
+        }
+    }
+
+    /// One more was seen.
+    fn with(self, cost: u64) -> Least {
+        if cost < self.least {
+            Least {
+                least: cost,
+                second: self.least,
+            }
+        } else {
+            Least {
+                least: self.least,
+                second: self.second.min(cost),
+            }
+        }
+    }
+
+    /// How far they lie apart.
+    fn apart(self) -> u64 {
+        self.second.saturating_sub(self.least)
+    }
+}
+
+/// How far apart the costs of a unit's two cheapest versions lie where a packet has this price, in 1/256 of a distortion.
+fn apart_in_time(unit: &Unit, price: u64) -> u64 {
+    let mut costs = Least::new();
+    for version in unit.versions.as_slice() {
+        costs = costs.with(cost_of(*version, price));
+    }
+    costs.apart()
 }
 
 /// What a packet that is due at a time costs in these windows.
@@ -49,4 +118,51 @@ fn cost_of(version: Version, price: u64) -> u64 {
     let packets = u64::from(version.bytes.div_ceil(PAYLOAD_BYTES as u32));
     let distortion = version.distortion.saturating_mul(DISTORTION_PARTS);
     distortion.saturating_add(packets.saturating_mul(price))
+}
+
+/// How far apart the costs of a unit's two cheapest versions lie in windows that see the buffers, in 1/47,104 of a distortion; where
+/// one doesn't fit the unit's buffer, as far as can be.
+fn apart_in_buffers(unit: &Unit, windows: &[BufferWindow], owner: Owner) -> u64
+    requires slot { 1 ≤ owner.slot }
+    requires program { owner.number < 8 }
+{
+    let (of_bytes, of_packets) = prices_of(unit.due, windows, owner);
+    let mut costs = Least::new();
+    for version in unit.versions.as_slice() {
+        if u64::from(version.bytes) > EB_UNIT_BYTES * u64::from(owner.vbv) {
+            return u64::MAX - 1;
+        }
+        costs = costs.with(byte_cost_of(*version, of_bytes, of_packets));
+    }
+    costs.apart()
+}
+
+/// What a byte of a unit costs in these windows, and a byte of its whole packets.
+fn prices_of(due: u64, windows: &[BufferWindow], owner: Owner) -> (u64, u64)
+    requires slot { 1 ≤ owner.slot }
+    requires program { owner.number < 8 }
+{
+    let stops = stop(owner.slot, due);
+    let mut of_bytes: u64 = 0;
+    let mut of_packets: u64 = 0;
+    for window in windows {
+        match charge_of(owner.slot, window, owner.number, due, stops) {
+            Charged::Nothing => {}
+            Charged::Bytes => of_bytes = of_bytes.saturating_add(window.lambda),
+            Charged::Packets => of_packets = of_packets.saturating_add(window.lambda),
+        }
+    }
+    (of_bytes, of_packets)
+}
+
+/// What a version costs where its bytes and those of its whole packets have these prices, in 1/47,104 of a distortion.
+fn byte_cost_of(version: Version, of_bytes: u64, of_packets: u64) -> u64 {
+    let payload = PAYLOAD_BYTES as u64;
+    let packets = payload * u64::from(version.bytes.div_ceil(PAYLOAD_BYTES as u32));
+    let distortion = version
+        .distortion
+        .saturating_mul(DISTORTION_PARTS * payload);
+    distortion
+        .saturating_add(of_bytes.saturating_mul(u64::from(version.bytes)))
+        .saturating_add(of_packets.saturating_mul(packets))
 }

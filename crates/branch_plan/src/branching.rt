@@ -2,25 +2,20 @@ ghost use Rattle.std.specs.Prelude.{◌≡◌, ◌+◌, ◌<◌, ◌≤◌, ℕ,
 ghost use Rattle.std.specs.BinaryHeap.{heap_items};
 ghost use Rattle.version_table.specs.declared.limits.TheConstants.{NODES_MOST};
 ghost use Rattle.version_table.specs.Table.{IsValidTable};
-ghost use Rattle.dual_bounds.specs.declared.constants.TheConstants.{WINDOWS_MOST};
-ghost use Rattle.dual_bounds.specs.Bounds.{bound_of_value};
-ghost use Rattle.dual_bounds.specs.Fixed.{FixesVersions};
-ghost use Rattle.dual_bounds.specs.Values.{value_of_windows};
-ghost use Rattle.multiplier_search.specs.Windows.{AreSearched};
-ghost use Rattle.certificate_checker.specs.Shown.{unfixed};
-ghost use Rattle.branch_plan.specs.declared.limits.TheConstants.{FEW_WINDOWS_MOST, NODES_WITH_MANY_WINDOWS_MOST};
 ghost use Rattle.branch_plan.specs.Private.Branching.{Ends, EndsOrGrows, IsGrowth, IsTaken, IsWith};
+ghost use Rattle.branch_plan.specs.Private.Found.{IsSound};
 ghost use Rattle.branch_plan.specs.Private.Growth.{IsOrdered};
 ghost use Rattle.branch_plan.specs.Private.Known.{IsKnown};
 
 use crate::arena::{Arena, Link, path_to};
 use crate::changes::unit_at;
 use crate::children::{Place, with_branch};
+use crate::found::{Found, greater_bound};
 use crate::known::Known;
-use crate::leaves::{closest_unit, leaf_on};
+use crate::leaves::{Asked, closest_unit, leaf_on};
 use crate::open::{OpenLeaves, add_leaf, no_leaves, take_least};
 use crate::root::root_bound;
-use dual_bounds::{Windows, nothing_fixed};
+use dual_bounds::{copied, nothing_fixed};
 use list_types::OutOfMemory;
 use multiplier_search::LinearRelaxation;
 use slot_rule::SlotRun;
@@ -37,8 +32,12 @@ pub(crate) struct Growth {
     pub leaves: OpenLeaves,
     /// The best choice that is known.
     pub known: Known,
-    /// The bound of the root by its own windows, which no leaf's falls below.
+    /// The bound that no open leaf's falls below.
     pub root: u64,
+    /// The bound of the root by its windows of time.
+    pub time: u64,
+    /// The windows that were found for the root.
+    pub found: Found,
 }
 
 /// A tree that isn't branched any more.
@@ -50,6 +49,8 @@ pub(crate) struct Ended {
     pub bound: u64,
     /// The best choice that is known.
     pub known: Known,
+    /// The windows that were found for its root.
+    pub found: Found,
 }
 
 /// What a step came to.
@@ -69,21 +70,21 @@ pub(crate) fn branched(
     relaxation: Option<&LinearRelaxation>,
     run: &mut SlotRun<'_>,
     known: Known,
-    windows: Windows,
+    found: Found,
     nodes: u32,
 ) -> Result<Ended, OutOfMemory>
     requires valid { IsValidTable table.now }
     requires run { run.old.table ≡ table.now }
     requires known { IsKnown table.now known }
-    requires windows { AreSearched windows.items }
-    requires few_windows { NODES_WITH_MANY_WINDOWS_MOST < nodes → length windows.items ≤ FEW_WINDOWS_MOST }
+    requires found { IsSound table.now nodes found }
     requires some_nodes { 1 ≤ nodes }
     requires nodes { nodes ≤ NODES_MOST }
     ensures run { run.new.table ≡ table.now }
-    ensures ends { IfOk result (Ends table.now nodes (bound_of_value (value_of_windows table.now (unfixed table.now) windows.items))) }
+    ensures ends { IfOk result (Ends table.now nodes) }
+    ensures found { IfOk result (λ ended. ended.found ≡ found) }
     ensures kept { IfOk result (λ ended. ended.known.distortion ≤ known.distortion) }
 {
-    let mut growth = rooted(alloc, table, run, known, windows, nodes)?;
+    let mut growth = rooted(alloc, table, run, known, found, nodes)?;
     for _branches in 0..nodes {
         match branch_least(alloc, table, relaxation, run, growth, nodes)? {
             Step::Grown(grown) => growth = grown,
@@ -99,24 +100,39 @@ fn rooted(
     table: &Table,
     run: &mut SlotRun<'_>,
     known: Known,
-    windows: Windows,
+    found: Found,
     nodes: u32,
 ) -> Result<Growth, OutOfMemory>
     requires valid { IsValidTable table.now }
     requires run { run.old.table ≡ table.now }
     requires known { IsKnown table.now known }
-    requires windows { AreSearched windows.items }
-    requires few_windows { NODES_WITH_MANY_WINDOWS_MOST < nodes → length windows.items ≤ FEW_WINDOWS_MOST }
+    requires found { IsSound table.now nodes found }
     requires some_nodes { 1 ≤ nodes }
     ensures run { run.new.table ≡ table.now }
     ensures grown { IfOk result (IsGrowth table.now nodes) }
-    ensures root { IfOk result (λ growth. growth.root ≡ bound_of_value (value_of_windows table.now (unfixed table.now) windows.items)) }
+    ensures found { IfOk result (λ growth. growth.found ≡ found) }
     ensures kept { IfOk result (λ growth. growth.known.distortion ≤ known.distortion) }
     ensures one { IfOk result (λ growth. length growth.arena.nodes.items ≡ 1) }
 {
     let fixed = nothing_fixed(alloc, table)?;
-    let root = root_bound(table, &fixed, &windows, &known);
-    let leaf = leaf_on(alloc, table, run, known, &fixed, windows)?;
+    let time = root_bound(table, &fixed, &found.time, &known);
+    let root = greater_bound(table, &fixed, &found, &known, time, nodes);
+    let asked = Asked {
+        floor: root,
+        nodes,
+        quick: false,
+    };
+    let windows = copied(found.time.as_slice());
+    let leaf = leaf_on(
+        alloc,
+        table,
+        run,
+        known,
+        &fixed,
+        windows,
+        &found.buffers,
+        asked,
+    )?;
     let mut leaves = no_leaves(alloc);
     add_if_open(&mut leaves, leaf.bound, 0)?;
     let mut arena = Arena {
@@ -135,6 +151,8 @@ fn rooted(
         leaves,
         known: leaf.known,
         root,
+        time,
+        found,
     })
 }
 
@@ -188,18 +206,21 @@ fn branch_least(
 
 /// The tree whose bound has come up to the distortion.
 fn as_best(growth: Growth) -> Ended
-    ensures { result ≡ record { arena = growth.arena; bound = growth.known.distortion; known = growth.known } }
+    ensures { result ≡ record { arena = growth.arena; bound = growth.known.distortion; known = growth.known; found = growth.found } }
 {
     let Growth {
         arena,
         leaves: _,
         known,
         root: _,
+        time: _,
+        found,
     } = growth;
     Ended {
         arena,
         bound: known.distortion,
         known,
+        found,
     }
 }
 
@@ -232,11 +253,14 @@ fn branch_at(
             leaves: _,
             known,
             root: _,
+            time: _,
+            found,
         } = growth;
         Ok(Step::Ended(Ended {
             arena,
             bound,
             known,
+            found,
         }))
     } else {
         let place = Place {

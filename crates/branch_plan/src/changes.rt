@@ -13,7 +13,7 @@ use version_table::{Choice, Table, Unit, distortion_of};
 
 /// What trying single changes of a known choice came to.
 #[derive(Drop)]
-enum Tried {
+pub(crate) enum Tried {
     /// One helps: the choice with it, the unit that it changed, and the runs that are left.
     Better {
         known: Known,
@@ -78,7 +78,13 @@ pub(crate) fn after_changes(
 }
 
 /// Tries the units from one on, and then those before it.
-fn round(table: &Table, run: &mut SlotRun<'_>, known: Known, left: u32, from: usize) -> Tried
+pub(crate) fn round(
+    table: &Table,
+    run: &mut SlotRun<'_>,
+    known: Known,
+    left: u32,
+    from: usize,
+) -> Tried
     requires valid { IsValidTable table.now }
     requires run { run.old.table ≡ table.now }
     requires known { IsKnown table.now known }

@@ -5,10 +5,11 @@ ghost use Rattle.version_table.specs.Table.{IsValidTable};
 ghost use Rattle.dual_bounds.specs.Fixed.{FixesVersions};
 ghost use Rattle.dual_bounds.specs.Values.{value_of_windows};
 ghost use Rattle.multiplier_search.specs.Windows.{AreSearched};
-ghost use Rattle.bound_certificate.specs.Cert.{IsOfVersion};
-ghost use Rattle.certificate_checker.specs.Shown.{fix, versions_of, windows_in};
+ghost use Rattle.certificate_checker.specs.Shown.{fix, versions_of};
+ghost use Rattle.multiplier_search.specs.Buffered.{AreSearchedBuffered};
 ghost use Rattle.branch_plan.specs.declared.limits.TheConstants.{FEW_WINDOWS_MOST, NODES_WITH_MANY_WINDOWS_MOST};
 ghost use Rattle.branch_plan.specs.Private.Branching.{AreChildren, AreLinkedBehind, IsBranched, IsPlace, IsWithChild};
+ghost use Rattle.branch_plan.specs.Private.Found.{IsReached, IsReachedAbove, buffers_of, time_of};
 ghost use Rattle.branch_plan.specs.Private.Growth.{IsOrdered};
 ghost use Rattle.branch_plan.specs.Private.Known.{IsKnown};
 ghost use Rattle.branch_plan.specs.Private.Leaves.{IsFreeUnit};
@@ -16,11 +17,14 @@ ghost use Rattle.branch_plan.specs.Private.Leaves.{IsFreeUnit};
 use crate::arena::Link;
 use crate::branching::{Growth, add_if_open};
 use crate::changes::unit_at;
+use crate::fitting::kept_bound;
+use crate::found::Found;
 use crate::known::Known;
-use crate::leaves::{Leaf, leaf_on};
+use crate::leaves::{Asked, Leaf, leaf_on};
 use crate::limits::{NODES_WITH_MANY_WINDOWS_MOST, RELAXED_MOST};
 use crate::open::OpenLeaves;
 use bound_certificate::Node;
+use buffer_windows::BufferWindows;
 use dual_bounds::{Fixed, Windows, copied};
 use list_types::{ListOf, OutOfMemory};
 use multiplier_search::LinearRelaxation;
@@ -72,11 +76,19 @@ pub(crate) fn with_branch(
         leaves,
         known,
         root,
+        time,
+        found,
     } = growth;
     let number = place.number;
     let unit = place.unit;
     let first = arena.nodes.len() as u32;
-    let windows = windows_in(&arena.nodes[number as usize]);
+    let windows = time_of(&arena.nodes[number as usize], &found);
+    let buffers = buffers_of(alloc, &arena.nodes[number as usize], &found)?;
+    let asked = Asked {
+        floor: kept_bound(table, unit as usize, root, time),
+        nodes,
+        quick: sees(&arena.nodes[number as usize]),
+    };
     let start = Children {
         nodes: Vec::new(alloc),
         leaves,
@@ -87,7 +99,7 @@ pub(crate) fn with_branch(
         leaves,
         known,
     } = children_of(
-        alloc, table, relaxation, run, start, &windows, place, first, nodes,
+        alloc, table, relaxation, run, start, &windows, &buffers, place, first, asked,
     )?;
     link_children(&mut arena.links, number, unit, made.len() as u32)?;
     arena.nodes[number as usize] = Node::Branch { unit };
@@ -96,7 +108,9 @@ pub(crate) fn with_branch(
         arena,
         leaves,
         known,
-        root,
+        root: asked.floor,
+        time,
+        found,
     })
 }
 
@@ -149,9 +163,10 @@ fn children_of(
     run: &mut SlotRun<'_>,
     start: Children,
     windows: &Windows,
+    buffers: &BufferWindows,
     place: Place,
     first: u32,
-    nodes: u32,
+    asked: Asked,
 ) -> Result<Children, OutOfMemory>
     requires valid { IsValidTable table.now }
     requires run { run.old.table ≡ table.now }
@@ -161,13 +176,15 @@ fn children_of(
     requires fixed { FixesVersions table.now place.fixed }
     requires free { IsFreeUnit table.now place.fixed place.unit }
     requires windows { AreSearched windows.now.items }
-    requires few_windows { NODES_WITH_MANY_WINDOWS_MOST < nodes → length windows.now.items ≤ FEW_WINDOWS_MOST }
+    requires few_windows { NODES_WITH_MANY_WINDOWS_MOST < asked.nodes → length windows.now.items ≤ FEW_WINDOWS_MOST }
+    requires buffers { AreSearchedBuffered table.now buffers.now }
+    requires floor { IsReachedAbove table.now asked.nodes place.fixed place.unit windows.now.items buffers.now asked.floor }
     requires first { first ≤ NODES_MOST }
     ensures run { run.new.table ≡ table.now }
     ensures known { IfOk result (λ children. IsKnown table.now children.known) }
     ensures kept { IfOk result (λ children. children.known.distortion ≤ start.known.distortion) }
     ensures order { IfOk result (λ children. IsOrdered (heap_items children.leaves)) }
-    ensures children { IfOk result (λ children. AreChildren table.now nodes windows.now.items place.fixed place.unit first (versions_of table.now place.unit)
+    ensures children { IfOk result (λ children. AreChildren table.now asked.nodes asked.floor place.fixed place.unit first (versions_of table.now place.unit)
         children.nodes.items (heap_items start.leaves) (heap_items children.leaves) children.known.distortion) }
 {
     let Place {
@@ -175,12 +192,26 @@ fn children_of(
         unit,
         mut fixed,
     } = place;
-    let relaxed = is_cheap(fixed.len(), first, nodes);
+    let relaxed = is_cheap(fixed.len(), first, asked.nodes);
+    let own_asked = Asked {
+        quick: asked.quick && !relaxed,
+        ..asked
+    };
     let mut children = start;
     for k in 0..unit_at(table, unit as usize).versions.len() {
         fixed = with_version(fixed, unit as usize, k as u8);
         let own = windows_for(alloc, table, relaxation, &fixed, windows, relaxed)?;
-        children = with_child(alloc, table, run, children, &fixed, own, first + k as u32)?;
+        children = with_child(
+            alloc,
+            table,
+            run,
+            children,
+            &fixed,
+            own,
+            buffers,
+            own_asked,
+            first + k as u32,
+        )?;
     }
     Ok(children)
 }
@@ -237,6 +268,8 @@ fn with_child(
     children: Children,
     fixed: &Fixed,
     windows: Windows,
+    buffers: &BufferWindows,
+    asked: Asked,
     number: u32,
 ) -> Result<Children, OutOfMemory>
     requires valid { IsValidTable table.now }
@@ -245,16 +278,21 @@ fn with_child(
     requires order { IsOrdered (heap_items children.leaves) }
     requires fixed { FixesVersions table.now fixed.now }
     requires windows { AreSearched windows.items }
+    requires few_windows { NODES_WITH_MANY_WINDOWS_MOST < asked.nodes → length windows.items ≤ FEW_WINDOWS_MOST }
+    requires buffers { AreSearchedBuffered table.now buffers.now }
+    requires floor { IsReached table.now asked.nodes fixed.now windows.items buffers.now asked.floor }
     ensures run { run.new.table ≡ table.now }
     ensures order { IfOk result (λ more. IsOrdered (heap_items more.leaves)) }
-    ensures child { IfOk result (IsWithChild table.now fixed.now windows.items number children) }
+    ensures child { IfOk result (IsWithChild table.now asked.nodes asked.floor fixed.now number children) }
 {
     let Children {
         mut nodes,
         mut leaves,
         known,
     } = children;
-    let Leaf { node, bound, known } = leaf_on(alloc, table, run, known, fixed, windows)?;
+    let Leaf { node, bound, known } = leaf_on(
+        alloc, table, run, known, fixed, windows, buffers, asked,
+    )?;
     add_if_open(&mut leaves, bound, number)?;
     nodes.push(node)?;
     Ok(Children {
@@ -264,17 +302,42 @@ fn with_child(
     })
 }
 
-/// The windows of a node that has some.
-fn windows_in(node: &Node) -> Windows
-    requires { IsOfVersion 2 node.now }
-    ensures { result.items ≡ windows_in node.now }
+/// The windows of time of a node that has some, and else those of the root.
+fn time_of(node: &Node, found: &Found) -> Windows
+    ensures { result.items ≡ time_of node.now found.now.time.items }
 {
     match node {
         Node::Window { with } => copied(with.as_slice()),
-        Node::Branch { unit: _ } => Windows::new(),
-        Node::Dual { with: _ } => unreachable!(),
-        Node::Run { scheduled: _ } => Windows::new(),
-        Node::Open => Windows::new(),
-        Node::BufferWindow { with: _ } => Windows::new(),
+        Node::Branch { unit: _ } => copied(found.time.as_slice()),
+        Node::Dual { with: _ } => copied(found.time.as_slice()),
+        Node::Run { scheduled: _ } => copied(found.time.as_slice()),
+        Node::Open => copied(found.time.as_slice()),
+        Node::BufferWindow { with: _ } => copied(found.time.as_slice()),
+    }
+}
+
+/// The windows that see the buffers of a node that has some, and else those of the root. Fails only for want of memory.
+fn buffers_of(alloc: Global, node: &Node, found: &Found) -> Result<BufferWindows, OutOfMemory>
+    ensures { IfOk result (λ buffers. buffers ≡ buffers_of node.now found.now.buffers) }
+{
+    match node {
+        Node::Window { with: _ } => BufferWindows::copied(alloc, found.buffers.as_slice()),
+        Node::Branch { unit: _ } => BufferWindows::copied(alloc, found.buffers.as_slice()),
+        Node::Dual { with: _ } => BufferWindows::copied(alloc, found.buffers.as_slice()),
+        Node::Run { scheduled: _ } => BufferWindows::copied(alloc, found.buffers.as_slice()),
+        Node::Open => BufferWindows::copied(alloc, found.buffers.as_slice()),
+        Node::BufferWindow { with } => BufferWindows::copied(alloc, with.as_slice()),
+    }
+}
+
+/// Whether a node has windows that see the buffers.
+fn sees(node: &Node) -> bool {
+    match node {
+        Node::BufferWindow { with: _ } => true,
+        Node::Window { with: _ } => false,
+        Node::Branch { unit: _ } => false,
+        Node::Dual { with: _ } => false,
+        Node::Run { scheduled: _ } => false,
+        Node::Open => false,
     }
 }

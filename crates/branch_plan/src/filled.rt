@@ -14,7 +14,7 @@ use std::alloc::Global;
 use version_table::{Choice, Table, distortion_of, smallest};
 
 /// Runs of the slot rule on choices that fill the room, at most.
-const FILLED_RUNS_MOST: u32 = 128;
+pub(crate) const FILLED_RUNS_MOST: u32 = 128;
 /// With how many parts of the elementary buffers the room is filled, at most.
 const PASSES_MOST: u32 = 4;
 /// Of 100 parts of the elementary buffers, those that are reckoned to be filled at first.

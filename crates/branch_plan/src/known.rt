@@ -7,7 +7,7 @@ ghost use Rattle.branch_plan.specs.Plan.{IsMissOfSmallest, IsNoWorseThanLevels, 
 ghost use Rattle.branch_plan.specs.Private.Known.{IsKnown, IsNoWorseThanLevel};
 
 use crate::planner::PlanFault;
-use list_types::OutOfMemory;
+use list_types::{ListOf, OutOfMemory};
 use slot_rule::SlotRun;
 use std::alloc::Global;
 use version_table::limits::VERSIONS_MOST;
@@ -108,4 +108,15 @@ pub(crate) fn better(table: &Table, known: Known, choice: Choice) -> Known
     } else {
         known
     }
+}
+
+/// The same choice once more. Fails only for want of memory.
+pub(crate) fn copied(alloc: Global, known: &Known) -> Result<Known, OutOfMemory>
+    ensures { IfOk result (λ copy. copy ≡ known.now) }
+{
+    let versions = known.choice.as_slice().to_vec(alloc)?;
+    Ok(Known {
+        choice: ListOf::from_vec(versions),
+        distortion: known.distortion,
+    })
 }

@@ -1,4 +1,4 @@
-ghost use Rattle.std.specs.Prelude.{◌≡◌, ◌<◌, ◌≤◌, ℕ, true, false, length, slice_index_or, None, IfOk, MatchOption};
+ghost use Rattle.std.specs.Prelude.{◌≡◌, ◌<◌, ◌≤◌, ℕ, true, false, length, slice_index_or, Some, None, IfOk, MatchOption};
 ghost use Rattle.version_table.specs.Choice.{Fits, distortion_of_choice};
 ghost use Rattle.version_table.specs.Table.{IsValidTable, units_of};
 ghost use Rattle.slot_rule.specs.Schedule.{IsScheduled};
@@ -7,16 +7,23 @@ ghost use Rattle.dual_bounds.specs.Bounds.{bound_of_value};
 ghost use Rattle.dual_bounds.specs.Fixed.{FixesVersions};
 ghost use Rattle.dual_bounds.specs.Values.{value_of_windows};
 ghost use Rattle.multiplier_search.specs.Windows.{AreSearched};
+ghost use Rattle.bound_certificate.specs.declared.cert.Node.TheVariants.{BufferWindow};
+ghost use Rattle.multiplier_search.specs.Buffered.{AreSearchedBuffered};
+ghost use Rattle.branch_plan.specs.Bound.{bound_where_few};
+ghost use Rattle.branch_plan.specs.declared.limits.TheConstants.{FEW_WINDOWS_MOST, NODES_WITH_MANY_WINDOWS_MOST};
 ghost use Rattle.certificate_checker.specs.Faults.{IsSettled, LeavesOne};
 ghost use Rattle.certificate_checker.specs.Shown.{choice_left};
 ghost use Rattle.branch_plan.specs.Private.Known.{IsKnown};
 ghost use Rattle.branch_plan.specs.Private.Changes.{unit_at};
+ghost use Rattle.branch_plan.specs.Private.Found.{IsNoLower, IsReached};
 ghost use Rattle.branch_plan.specs.Private.Leaves.{IsFreeUnit, IsLeafOn};
 
 use crate::apart::costs_apart;
 use crate::changes::unit_at;
+use crate::found::seen_bound;
 use crate::known::{Known, better};
 use bound_certificate::Node;
+use buffer_windows::BufferWindows;
 use dual_bounds::{Fixed, Windows, bound_of, window_value};
 use list_types::{ListOf, OutOfMemory};
 use slot_rule::SlotRun;
@@ -34,8 +41,19 @@ pub(crate) struct Leaf {
     pub known: Known,
 }
 
-/// The leaf where these versions are fixed: the choice that is left, tried, where it is one; else the windows. Fails only for
-/// want of memory.
+/// What is asked of a leaf.
+#[derive(Clone, Copy)]
+pub(crate) struct Asked {
+    /// The bound that it has at least.
+    pub floor: u64,
+    /// How many nodes its tree may have.
+    pub nodes: u32,
+    /// Whether windows that see the buffers are enough where they reach that bound, so that no others are valued.
+    pub quick: bool,
+}
+
+/// The leaf where these versions are fixed: the choice that is left, tried, where it is one; else the windows of the kind that
+/// bounds closer. Fails only for want of memory.
 pub(crate) fn leaf_on(
     alloc: Global,
     table: &Table,
@@ -43,18 +61,24 @@ pub(crate) fn leaf_on(
     known: Known,
     fixed: &Fixed,
     windows: Windows,
+    buffers: &BufferWindows,
+    asked: Asked,
 ) -> Result<Leaf, OutOfMemory>
     requires valid { IsValidTable table.now }
     requires run { run.old.table ≡ table.now }
     requires known { IsKnown table.now known }
     requires fixed { FixesVersions table.now fixed.now }
     requires windows { AreSearched windows.items }
+    requires few_windows { NODES_WITH_MANY_WINDOWS_MOST < asked.nodes → length windows.items ≤ FEW_WINDOWS_MOST }
+    requires buffers { AreSearchedBuffered table.now buffers.now }
+    requires floor { IsReached table.now asked.nodes fixed.now windows.items buffers.now asked.floor }
     ensures run { run.new.table ≡ table.now }
-    ensures leaf { IfOk result (IsLeafOn table.now fixed.now windows.items known.distortion) }
+    ensures leaf { IfOk result (IsLeafOn table.now asked.nodes fixed.now known.distortion) }
+    ensures floor { IfOk result (λ leaf. IsNoLower asked.floor leaf.bound) }
 {
     match free_unit(table, fixed) {
-        Some(_unit) => Ok(priced_leaf(table, known, fixed, windows)),
-        None => run_leaf(alloc, table, run, known, fixed, &windows),
+        Some(_unit) => priced_leaf(alloc, table, known, fixed, windows, buffers, asked),
+        None => run_leaf(alloc, table, run, known, fixed, asked.nodes),
     }
 }
 
@@ -86,7 +110,7 @@ pub(crate) fn closest_unit(table: &Table, fixed: &Fixed, leaf: &Node) -> Option<
     let mut least = u64::MAX;
     for unit in 0..fixed.len() {
         if is_free(table, fixed, unit) {
-            let apart = costs_apart(unit_at(table, unit), leaf);
+            let apart = costs_apart(table, unit, leaf);
             if apart < least {
                 least = apart;
                 closest = Some(unit as u32);
@@ -109,14 +133,106 @@ fn is_free(table: &Table, fixed: &Fixed, unit: usize) -> bool
     }
 }
 
-/// The leaf with these windows.
-fn priced_leaf(table: &Table, known: Known, fixed: &Fixed, windows: Windows) -> Leaf
+/// The leaf with the windows of the kind that bounds closer.
+fn priced_leaf(
+    alloc: Global,
+    table: &Table,
+    known: Known,
+    fixed: &Fixed,
+    windows: Windows,
+    buffers: &BufferWindows,
+    asked: Asked,
+) -> Result<Leaf, OutOfMemory>
     requires valid { IsValidTable table.now }
     requires known { IsKnown table.now known }
     requires fixed { FixesVersions table.now fixed.now }
     requires windows { AreSearched windows.items }
+    requires few_windows { NODES_WITH_MANY_WINDOWS_MOST < asked.nodes → length windows.items ≤ FEW_WINDOWS_MOST }
+    requires buffers { AreSearchedBuffered table.now buffers.now }
+    requires floor { IsReached table.now asked.nodes fixed.now windows.items buffers.now asked.floor }
     requires free { (unit : ℕ) × IsFreeUnit table.now fixed.now unit }
-    ensures { IsLeafOn table.now fixed.now windows.items known.distortion result }
+    ensures leaf { IfOk result (IsLeafOn table.now asked.nodes fixed.now known.distortion) }
+    ensures floor { IfOk result (λ leaf. IsNoLower asked.floor leaf.bound) }
+{
+    match seen_bound(table, fixed, buffers, asked.nodes) {
+        Some(bound) => closer_leaf(alloc, table, known, fixed, windows, buffers, asked, bound),
+        None => Ok(time_leaf(table, known, fixed, windows, asked.nodes)),
+    }
+}
+
+/// The same, where this is the bound of the windows that see the buffers.
+fn closer_leaf(
+    alloc: Global,
+    table: &Table,
+    known: Known,
+    fixed: &Fixed,
+    windows: Windows,
+    buffers: &BufferWindows,
+    asked: Asked,
+    bound: u128,
+) -> Result<Leaf, OutOfMemory>
+    requires valid { IsValidTable table.now }
+    requires known { IsKnown table.now known }
+    requires fixed { FixesVersions table.now fixed.now }
+    requires windows { AreSearched windows.items }
+    requires few_windows { NODES_WITH_MANY_WINDOWS_MOST < asked.nodes → length windows.items ≤ FEW_WINDOWS_MOST }
+    requires buffers { AreSearchedBuffered table.now buffers.now }
+    requires floor { IsReached table.now asked.nodes fixed.now windows.items buffers.now asked.floor }
+    requires free { (unit : ℕ) × IsFreeUnit table.now fixed.now unit }
+    requires bound { bound_where_few table.now asked.nodes fixed.now buffers.now ≡ Some bound }
+    ensures leaf { IfOk result (IsLeafOn table.now asked.nodes fixed.now known.distortion) }
+    ensures floor { IfOk result (λ leaf. IsNoLower asked.floor leaf.bound) }
+{
+    if is_enough(asked, bound) {
+        let leaf = seen_leaf(alloc, known, buffers, bound)?;
+        return Ok(leaf);
+    }
+    let time = bound_on(table, fixed, &windows);
+    if time < bound {
+        let leaf = seen_leaf(alloc, known, buffers, bound)?;
+        Ok(leaf)
+    } else {
+        Ok(time_leaf(table, known, fixed, windows, asked.nodes))
+    }
+}
+
+/// Whether a bound of windows that see the buffers is enough, so that no others are valued.
+fn is_enough(asked: Asked, bound: u128) -> bool
+    ensures { result ≡ true → asked.floor ≤ bound }
+{
+    asked.quick && u128::from(asked.floor) <= bound
+}
+
+/// The leaf with windows that see the buffers, whose bound this is.
+fn seen_leaf(
+    alloc: Global,
+    known: Known,
+    buffers: &BufferWindows,
+    bound: u128,
+) -> Result<Leaf, OutOfMemory>
+    ensures node { IfOk result (λ leaf. leaf.node ≡ BufferWindow buffers.now) }
+    ensures known { IfOk result (λ leaf. leaf.known ≡ known) }
+    ensures bound { IfOk result (λ leaf. MatchOption leaf.bound (known.distortion ≤ bound) (λ below. (below ≡ bound) × (bound < known.distortion))) }
+{
+    let with = BufferWindows::copied(alloc, buffers.as_slice())?;
+    let below = bound_below(bound, known.distortion);
+    Ok(Leaf {
+        node: Node::BufferWindow { with },
+        bound: below,
+        known,
+    })
+}
+
+/// The leaf with windows of time.
+fn time_leaf(table: &Table, known: Known, fixed: &Fixed, windows: Windows, nodes: u32) -> Leaf
+    requires valid { IsValidTable table.now }
+    requires known { IsKnown table.now known }
+    requires fixed { FixesVersions table.now fixed.now }
+    requires windows { AreSearched windows.items }
+    requires few_windows { NODES_WITH_MANY_WINDOWS_MOST < nodes → length windows.items ≤ FEW_WINDOWS_MOST }
+    requires free { (unit : ℕ) × IsFreeUnit table.now fixed.now unit }
+    ensures leaf { IsLeafOn table.now nodes fixed.now known.distortion result }
+    ensures floor { IsNoLower (bound_of_value (value_of_windows table.now fixed.now windows.items)) result.bound }
 {
     let bound = bound_below(bound_on(table, fixed, &windows), known.distortion);
     Leaf {
@@ -155,7 +271,7 @@ fn run_leaf(
     run: &mut SlotRun<'_>,
     known: Known,
     fixed: &Fixed,
-    windows: &Windows,
+    nodes: u32,
 ) -> Result<Leaf, OutOfMemory>
     requires valid { IsValidTable table.now }
     requires run { run.old.table ≡ table.now }
@@ -163,7 +279,8 @@ fn run_leaf(
     requires fixed { FixesVersions table.now fixed.now }
     requires one { LeavesOne table.now fixed.now }
     ensures run { run.new.table ≡ table.now }
-    ensures leaf { IfOk result (IsLeafOn table.now fixed.now windows.now.items known.distortion) }
+    ensures leaf { IfOk result (IsLeafOn table.now nodes fixed.now known.distortion) }
+    ensures bound { IfOk result (λ leaf. leaf.bound ≡ None) }
 {
     let choice = choice_left(alloc, fixed)?;
     match run.run(&choice) {

@@ -6,3 +6,6 @@ pub const NODES_WITH_MANY_WINDOWS_MOST: u32 = 32_768;
 pub const FEW_WINDOWS_MOST: usize = 2;
 /// The first nodes get relaxations of their own: while units times the nodes before are so many at most.
 pub const RELAXED_MOST: u64 = 128_000;
+/// Windows that see the buffers, at most, times the nodes that are allowed: so that each leaf can have its own copy and a
+/// certificate stays within its bytes.
+pub const BUFFER_WINDOWS_IN_ALL: usize = 2_190_000;

@@ -4,7 +4,7 @@ ghost use Rattle.version_table.specs.declared.limits.TheConstants.{EVALUATIONS_M
 ghost use Rattle.bound_certificate.specs.Reading.{IsWritable};
 ghost use Rattle.certificate_checker.specs.Checked.{IsFaultless};
 ghost use Rattle.certificate_checker.specs.Faults.{IsHeadRight};
-ghost use Rattle.branch_plan.specs.Bound.{HaveFewWindows, IsAtLeastEachPair, IsAtLeastEachTried};
+ghost use Rattle.branch_plan.specs.Bound.{HaveFewWindows, IsAtLeastEachPair, IsAtLeastEachTried, ReachesFound};
 ghost use Rattle.branch_plan.specs.Changes.{EndsBestAlone, GainsByRounds};
 ghost use Rattle.branch_plan.specs.declared.planner.Search.TheVariants.{Budget, Optimal};
 ghost use Rattle.branch_plan.specs.Plan.{BoundsAll, IsMissOfSmallest, IsNoWorseThanLevels, SaysOptimal, ShowsItsBound, SmallestIsScheduled};
@@ -12,12 +12,12 @@ ghost use Rattle.branch_plan.specs.Tree.{AreEnough, BranchesOnMany, IsSpent};
 
 use crate::arena::in_order;
 use crate::branching::{Ended, branched};
-use crate::filled::by_filling;
-use crate::free::free_runs;
-use crate::known::best_premise;
+use crate::debt::debt_of;
+use crate::found::{Found, found_windows};
+use crate::known::{best_premise, copied};
 use crate::owed::after_owed;
-use crate::root::{relaxation_for, root_windows};
-use crate::seeing::{Seen, seeing};
+use crate::owing::{filled_first, with_found};
+use crate::root::relaxation_for;
 use bound_certificate::Cert;
 use dual_bounds::nothing_fixed;
 use list_types::OutOfMemory;
@@ -33,6 +33,8 @@ pub struct Planned {
     pub cert: Cert,
     /// What ended the search.
     pub search: Search,
+    /// The windows that the search found for the root of the tree.
+    pub found: Found,
 }
 
 /// What ended a search.
@@ -99,6 +101,7 @@ pub fn plan(
     ensures enough { AreEnough table.now nodes → IfOk result (λ planned. planned.search ≡ Optimal) }
 
     // How good bound and choice are at least.
+    ensures reached { IfOk result (λ planned. ReachesFound table.now nodes planned.found planned.cert) }
     ensures tried { IfOk result (λ planned. IsAtLeastEachTried table.now planned.cert.bound) }
     ensures pairs { IfOk result (λ planned. IsAtLeastEachPair table.now planned.cert.bound) }
     ensures no_worse { IfOk result (λ planned. IsNoWorseThanLevels table.now planned.cert.distortion) }
@@ -108,32 +111,33 @@ pub fn plan(
     let mut run = SlotRun::new(alloc, table)?;
     let premise = best_premise(alloc, table, &mut run)?;
     let fixed = nothing_fixed(alloc, table)?;
+    let debt = debt_of(table, fixed.len(), evaluations, premise.distortion);
+    let owing = filled_first(alloc, table, &mut run, debt, premise)?;
+    let best = copied(alloc, &owing.known)?;
     let relaxation = relaxation_for(alloc, table, nodes)?;
     let relaxed = relaxation.as_ref();
-    let windows = root_windows(alloc, table, relaxed, &fixed, nodes)?;
-    let ended = branched(alloc, table, relaxed, &mut run, premise, windows, nodes)?;
+    let windows = found_windows(alloc, table, relaxed, &fixed, nodes)?;
+    let ended = branched(alloc, table, relaxed, &mut run, best, windows, nodes)?;
     let tree = in_order(alloc, &ended.arena)?;
     let Ended {
         arena: _,
         bound,
         known: first,
+        found,
     } = ended;
-    let free = free_runs(table, fixed.len(), evaluations);
-    let start = first.distortion;
-    let filled = by_filling(alloc, table, &mut run, first, free)?;
-    let known = after_owed(table, &mut run, start, filled, evaluations);
-    let shown = Seen { nodes: tree, bound };
-    let seen = seeing(alloc, table, &fixed, shown, known.distortion)?;
-    let search = ended_by(seen.bound, known.distortion);
+    let owing = with_found(owing, first, 0);
+    let known = after_owed(table, &mut run, debt, owing);
+    let search = ended_by(bound, known.distortion);
     Ok(Planned {
         cert: Cert {
             version: 3,
-            bound: seen.bound,
+            bound,
             distortion: known.distortion,
             choice: known.choice,
-            nodes: seen.nodes,
+            nodes: tree,
         },
         search,
+        found,
     })
 }
 

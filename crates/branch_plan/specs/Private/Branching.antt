@@ -4,20 +4,15 @@ use Rattle.std.specs.BinaryHeap.{heap_items}
 use Rattle.std.specs.List.{AllByRecursion, Contains}
 use Rattle.std.specs.declared.cmp.Reverse.{Reverse}
 use Rattle.version_table.specs.declared.table.Table.{Table}
-use Rattle.dual_bounds.specs.declared.constants.TheConstants.{WINDOWS_MOST}
-use Rattle.dual_bounds.specs.declared.windows.Window.{Window as PricedWindow}
 use Rattle.dual_bounds.specs.Bounds.{bound_of_value}
 use Rattle.dual_bounds.specs.Fixed.{FixesVersions}
 use Rattle.dual_bounds.specs.Values.{value_of_windows}
-use Rattle.multiplier_search.specs.Windows.{AreSearched}
 use Rattle.bound_certificate.specs.declared.cert.Cert.{Cert}
 use Rattle.bound_certificate.specs.declared.cert.Node.{Node}
-use Rattle.bound_certificate.specs.Cert.{IsOfVersion}
 use Rattle.certificate_checker.specs.Checked.{IsAtMost}
 use Rattle.certificate_checker.specs.Faults.{IsRight}
-use Rattle.certificate_checker.specs.Shown.{bound_of_leaf, fix, unfixed, versions_of, windows_in}
+use Rattle.certificate_checker.specs.Shown.{bound_of_leaf, fix, unfixed, versions_of}
 use Rattle.certificate_checker.specs.Walk.{IsLeaf, Shows, Walks}
-use Rattle.branch_plan.specs.declared.limits.TheConstants.{FEW_WINDOWS_MOST, NODES_WITH_MANY_WINDOWS_MOST}
 use Rattle.branch_plan.specs.declared.arena.Link.{Link}
 use Rattle.branch_plan.specs.declared.branching.Growth.{Growth}
 use Rattle.branch_plan.specs.declared.branching.Ended.{Ended as EndedTree}
@@ -27,11 +22,13 @@ use Rattle.branch_plan.specs.declared.children.Place.{Place}
 use Rattle.branch_plan.specs.declared.leaves.Leaf.{Leaf}
 use Rattle.branch_plan.specs.declared.branching.Step.TheVariants.{Grown, Ended}
 use Rattle.branch_plan.specs.Plan.{BoundsAll}
-use Rattle.branch_plan.specs.Tree.{BranchesOnMany, IsSpent}
+use Rattle.branch_plan.specs.Bound.{bound_where_few}
+use Rattle.branch_plan.specs.Tree.{IsSpent}
 use Rattle.branch_plan.specs.Private.Forest.{Follows, Forest, Stands, ids_then, occurs, size, width}
 use Rattle.branch_plan.specs.Private.Growth.{ArePaths, AreLinked, IsOrder, IsOrdered, link_of, next_of, node_of}
 use Rattle.branch_plan.specs.Private.Known.{IsKnown}
-use Rattle.branch_plan.specs.Private.Leaves.{IsFreeUnit, IsLeafOn, MayBranch}
+use Rattle.branch_plan.specs.Private.Leaves.{IsFreeUnit, IsLeafOn, MayBranch, MayStand}
+use Rattle.branch_plan.specs.Private.Found.{AreSearchedIn, EachBranchFits, IsFounded, IsNoLower}
 
 -- the nodes are one tree, in which each stands once, and the links tell their order and paths
 pub record IsTree (table : Table) (nodes : List Node) (links : List Link) (path : ℕ → List (Option ℕ)) (tree : Forest) : Type 0 where
@@ -45,20 +42,13 @@ pub record IsTree (table : Table) (nodes : List Node) (links : List Link) (path 
   pub paths : ArePaths table links path
   pub fixes : (j : ℕ) → j < length nodes → FixesVersions table (path j)
 
--- a node that may stand in a certificate of a search of so many nodes
-pub record MayStand (table : Table) (most : ℕ) (node : Node) : Type 0 where
-  pub many : BranchesOnMany table node
-  pub version : IsOfVersion 2 node
-  pub windows : length (windows_in node) ≤ WINDOWS_MOST
-  pub few : NODES_WITH_MANY_WINDOWS_MOST < most → length (windows_in node) ≤ FEW_WINDOWS_MOST
-
 -- a leaf that may be branched, of this bound and number
 pub record IsOpenAt (table : Table) (nodes : List Node) (path : ℕ → List (Option ℕ)) (root bound j : ℕ) : Type 0 where
   pub within : j < length nodes
   pub leaf : IsLeaf (node_of nodes j)
-  pub may : MayBranch table (path j) (windows_in (node_of nodes j)) (node_of nodes j) bound
+  pub may : MayBranch table (path j) (node_of nodes j) bound
   pub at_least : root ≤ bound
-  pub searched : AreSearched (windows_in (node_of nodes j))
+  pub searched : AreSearchedIn table (node_of nodes j)
 
 -- a leaf has a bound no less than a distortion, or it is among these
 abbrev pub IsSettledIn : Table → (nodes : List Node) → (path : ℕ → List (Option ℕ)) → (leaves : List (Reverse (ℕ × ℕ))) → (distortion j : ℕ) → Type 0
@@ -86,6 +76,7 @@ pub record IsGrowth (table : Table) (most : ℕ) (growth : Growth) : Type 0 wher
   pub ordered : IsOrdered (heap_items growth.leaves)
   pub known : IsKnown table growth.known
   pub root : BoundsAll table growth.root
+  pub founded : IsFounded table most growth.found growth.time growth.root growth.arena.nodes.items
   pub nodes : length growth.arena.nodes.items ≤ most
 
 -- the same, where a leaf of least bound, below the distortion, has been taken out of the heap
@@ -101,6 +92,7 @@ pub record IsTaken (table : Table) (most : ℕ) (growth : Growth) (bound number 
   pub ordered : IsOrdered (heap_items growth.leaves)
   pub known : IsKnown table growth.known
   pub root : BoundsAll table growth.root
+  pub founded : IsFounded table most growth.found growth.time growth.root growth.arena.nodes.items
   pub nodes : length growth.arena.nodes.items ≤ most
 
 -- a search of so many nodes may end at these, whose bound is this
@@ -108,23 +100,25 @@ abbrev pub IsSpentAt : Table → (most : ℕ) → List Node → (bound : ℕ) �
 IsSpentAt table most nodes bound = (cert : Cert) → cert.nodes ≡ nodes → cert.bound ≡ bound → IsSpent table most cert
 
 -- a tree that isn't branched any more: its bound is the distortion, or the nodes are spent
-pub record Ends (table : Table) (most root : ℕ) (ended : EndedTree) : Type 0 where
+pub record Ends (table : Table) (most : ℕ) (ended : EndedTree) : Type 0 where
   pub ids : List ℕ
+  pub there : (j : ℕ) → j < length ended.arena.nodes.items → Contains ids j
   pub order : IsOrder ended.arena.nodes.items ended.arena.links.items ids
   pub as_many : length ended.arena.links.items ≡ length ended.arena.nodes.items
   pub nodes : length ended.arena.nodes.items ≤ most
   pub each : (j : ℕ) → j < length ended.arena.nodes.items → MayStand table most (node_of ended.arena.nodes.items j)
   pub known : IsKnown table ended.known
   pub shows : Walks table (unfixed table) (map (node_of ended.arena.nodes.items) ids) (Shows (Some ended.bound) [])
-  pub at_least : root ≤ ended.bound
+  pub time : bound_of_value (value_of_windows table (unfixed table) ended.found.time.items) ≤ ended.bound
+  pub buffers : EachBranchFits table ended.arena.nodes.items → (bound : ℕ) → bound_where_few table most (unfixed table) ended.found.buffers ≡ Some bound → bound ≤ ended.bound
   pub at_most : ended.bound ≤ ended.known.distortion
   pub spent : ended.bound < ended.known.distortion → IsSpentAt table most (map (node_of ended.arena.nodes.items) ids) ended.bound
 
 -- what a step comes to: more nodes, or the end
 abbrev pub EndsOrGrows : Table → (most : ℕ) → (before : Growth) → Step → Type 0
 EndsOrGrows table most before (Grown growth) =
-    IsGrowth table most growth × (length before.arena.nodes.items < length growth.arena.nodes.items) × (growth.known.distortion ≤ before.known.distortion) × (growth.root ≡ before.root)
-EndsOrGrows table most before (Ended ended) = Ends table most before.root ended × (ended.known.distortion ≤ before.known.distortion)
+    IsGrowth table most growth × (length before.arena.nodes.items < length growth.arena.nodes.items) × (growth.known.distortion ≤ before.known.distortion) × (growth.found ≡ before.found)
+EndsOrGrows table most before (Ended ended) = Ends table most ended × (ended.known.distortion ≤ before.known.distortion) × (ended.found ≡ before.found)
 
 -- a heap with one more leaf, where there is one
 pub record IsWith (bound : Option ℕ) (number : ℕ) (leaves more : List (Reverse (ℕ × ℕ))) : Type 0 where
@@ -135,7 +129,7 @@ pub record IsWith (bound : Option ℕ) (number : ℕ) (leaves more : List (Rever
 
 -- the first children of a branch: each is right where its version is fixed too, and has a bound no less than a distortion or is among the
 -- leaves, which besides it has those of before
-pub record AreChildren (table : Table) (most : ℕ) (windows : List PricedWindow) (fixed : List (Option ℕ)) (unit first k : ℕ) (made : List Node) (before leaves : List (Reverse (ℕ × ℕ))) (distortion : ℕ) : Type 0 where
+pub record AreChildren (table : Table) (most floor : ℕ) (fixed : List (Option ℕ)) (unit first k : ℕ) (made : List Node) (before leaves : List (Reverse (ℕ × ℕ))) (distortion : ℕ) : Type 0 where
   pub count : length made ≡ k
   pub is : (j : ℕ) → j < k → IsLeaf (node_of made j)
   pub right : (j : ℕ) → j < k → IsRight table (fix unit j fixed) (node_of made j)
@@ -144,8 +138,7 @@ pub record AreChildren (table : Table) (most : ℕ) (windows : List PricedWindow
       ⊎ ((leaf : Reverse (ℕ × ℕ)) × Contains leaves leaf × (leaf.0.1 ≡ first + j) × (bound_of_leaf table (fix unit j fixed) (node_of made j) ≡ Some leaf.0.0))
   pub kept : (leaf : Reverse (ℕ × ℕ)) → Contains before leaf → Contains leaves leaf
   pub only : (leaf : Reverse (ℕ × ℕ)) → Contains leaves leaf → Contains before leaf
-      ⊎ ((j : ℕ) × (j < k) × (leaf.0.1 ≡ first + j) × MayBranch table (fix unit j fixed) (windows_in (node_of made j)) (node_of made j) leaf.0.0
-      × (bound_of_value (value_of_windows table fixed windows) ≤ leaf.0.0) × AreSearched (windows_in (node_of made j)))
+      ⊎ ((j : ℕ) × (j < k) × (leaf.0.1 ≡ first + j) × MayBranch table (fix unit j fixed) (node_of made j) leaf.0.0 × (floor ≤ leaf.0.0) × AreSearchedIn table (node_of made j))
   pub outside : (j : ℕ) → (j < first) ⊎ (first + k ≤ j) → times_in j leaves ≤ times_in j before
   pub inside : (j : ℕ) → times_in j leaves ≤ 1 + times_in j before
 
@@ -176,12 +169,13 @@ pub record IsBranched (table : Table) (most : ℕ) (old growth : Growth) : Type 
   pub is : IsGrowth table most growth
   pub more : length old.arena.nodes.items < length growth.arena.nodes.items
   pub kept : growth.known.distortion ≤ old.known.distortion
-  pub root : growth.root ≡ old.root
+  pub found : growth.found ≡ old.found
 
 -- children with one more, a leaf where these versions are fixed
-pub record IsWithChild (table : Table) (fixed : List (Option ℕ)) (windows : List PricedWindow) (number : ℕ) (children more : Children) : Type 0 where
+pub record IsWithChild (table : Table) (most floor : ℕ) (fixed : List (Option ℕ)) (number : ℕ) (children more : Children) : Type 0 where
   pub leaf : Leaf
-  pub is : IsLeafOn table fixed windows children.known.distortion leaf
+  pub is : IsLeafOn table most fixed children.known.distortion leaf
+  pub no_lower : IsNoLower floor leaf.bound
   pub nodes : more.nodes.items ≡ children.nodes.items ++ leaf.node ∷ []
   pub leaves : IsWith leaf.bound number (heap_items children.leaves) (heap_items more.leaves)
   pub known : more.known ≡ leaf.known

@@ -1,4 +1,4 @@
-use Rattle.std.proofs.Common.{◌≡◌, ℕ, List, Option, length, rules, sym, ap, subst, arith}
+use Rattle.std.proofs.Common.{◌≡◌, ℕ, List, Option, length, rules, refl, sym, ap, subst, arith}
 use Rattle.version_table.specs.declared.table.Unit.{Unit as CodedUnit}
 use Rattle.dual_bounds.specs.Fixed.{FixesVersions}
 use Rattle.certificate_checker.specs.Faults.{LeavesOne}
@@ -60,4 +60,5 @@ returns-then-len-versions-clause-step c =
       ends_spent table c.args.nodes c.args.bound c.args.number c.in-Some.unit c.args.growth c.requires.valid taken free
           (omega (arith, c.if-len-versions.true, c.len.ensures, c.len-versions.ensures.value, count)),
       omega arith,
+      refl,
     )

@@ -1,7 +1,4 @@
 use Rattle.std.proofs.Common.{◌≡◌, ◌<◌, ◌≤◌, length}
-use Rattle.dual_bounds.specs.Bounds.{bound_of_value}
-use Rattle.dual_bounds.specs.Values.{value_of_windows}
-use Rattle.certificate_checker.specs.Shown.{unfixed}
 use Rattle.branch_plan.specs.Private.Branching.{IsGrowth}
 use Rattle.branch_plan.proofs.branching.branched.Given as goal
 
@@ -12,5 +9,5 @@ invariant-loop-branches l = record {
   grown : IsGrowth l.table l.nodes l.growth;
   more : l._branches < length l.growth.arena.nodes.items;
   kept : l.growth.known.distortion ≤ l.fn.known.distortion;
-  root : l.growth.root ≡ bound_of_value (value_of_windows l.table (unfixed l.table) l.fn.windows.items);
+  found : l.growth.found ≡ l.fn.found;
 }

@@ -5,6 +5,6 @@ use Rattle.branch_plan.proofs.branching.rooted.Goals as goal
 
 pub returns-clause-grown : goal.returns-clause-grown
 returns-clause-grown c =
-    rooted_growth c.args.table.now c.args.nodes c.args.known.distortion c.args.windows.items c.in_ok-leaf.leaf c.in_ok-fixed.fixed (heap_items c.no_leaves-leaves.result) _
-    c.in_ok-fixed.ensures.value c.in_ok-fixed.ensures.valid c.in_ok-leaf.ensures.leaf c.no_leaves-leaves.ensures.none c.in_ok-add_if_open.ensures.more c.requires.windows c.requires.few_windows
-    c.requires.some_nodes c.in_ok-add_if_open.ensures.order (search rules) (search rules) refl c.root_bound-root.ensures.bound c.requires.valid
+    rooted_growth c.args.table.now c.args.nodes c.args.known.distortion c.in_ok-leaf.leaf c.in_ok-fixed.fixed (heap_items c.no_leaves-leaves.result) _
+    c.in_ok-fixed.ensures.value c.in_ok-fixed.ensures.valid c.in_ok-leaf.ensures.leaf c.in_ok-leaf.ensures.floor c.no_leaves-leaves.ensures.none c.in_ok-add_if_open.ensures.more
+    c.requires.found c.root_bound-time.ensures.bound c.greater_bound-root.ensures c.requires.some_nodes c.in_ok-add_if_open.ensures.order (search rules) (search rules) refl

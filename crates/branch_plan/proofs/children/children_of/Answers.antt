@@ -9,7 +9,8 @@ use Rattle.certificate_checker.proofs.Units.{all_zip_size, fixes_one}
 use Rattle.branch_plan.specs.declared.known.Known.{Known}
 use Rattle.branch_plan.specs.Private.Branching.{AreChildren}
 use Rattle.branch_plan.specs.Private.Known.{IsKnown}
-use Rattle.branch_plan.proofs.Stepping.{child_step, few_own}
+use Rattle.branch_plan.proofs.Reaching.{few_own, reached_child}
+use Rattle.branch_plan.proofs.Stepping.{child_step}
 use Rattle.branch_plan.proofs.children.children_of.Goals as goal
 
 pub with_version-fixed-requires : goal.with_version-fixed-requires
@@ -43,6 +44,23 @@ with_child-requires-clause-fixed c =
     subst (λ (f : List (Option ℕ)). FixesVersions table f) (sym now) (fixes_one table place.fixed place.unit k c.requires.fixed low) in
     fixes
 
+pub with_child-requires-clause-few_windows : goal.with_child-requires-clause-few_windows
+with_child-requires-clause-few_windows c =
+    few_own c.args.asked.nodes c.args.windows.now.items c.in_ok-own.own.items c.is_cheap-relaxed.result c.is_cheap-relaxed.ensures c.in_ok-own.ensures.few c.requires.few_windows
+
+pub with_child-requires-clause-floor : goal.with_child-requires-clause-floor
+with_child-requires-clause-floor c =
+    let table = c.args.table.now in
+    let place = c.args.place in
+    let k = c.loop-k.k in
+    let count = ap (λ (u : CodedUnit). length u.versions.items) c.unit_at.ensures in
+    let low : k < versions_of table place.unit = omega (arith, c.loop-k-test.true, c.len-k-end.ensures.value, count) in
+    let now : c.with_version-fixed.result ≡ fix place.unit k place.fixed = c.with_version-fixed.ensures ∙ c.loop-k.invariant.fixed k in
+    let fixes : FixesVersions table c.with_version-fixed.result =
+    subst (λ (f : List (Option ℕ)). FixesVersions table f) (sym now) (fixes_one table place.fixed place.unit k c.requires.fixed low) in
+    reached_child table c.args.asked.nodes place.fixed c.with_version-fixed.result place.unit k c.args.windows.now.items c.in_ok-own.own.items c.args.buffers.now c.args.asked.floor
+    c.requires.free low now fixes c.in_ok-own.ensures.value c.requires.floor
+
 pub loop-k-preserved : goal.loop-k-preserved
 loop-k-preserved c =
     let table = c.args.table.now in
@@ -55,7 +73,6 @@ loop-k-preserved c =
     let fixes : FixesVersions table c.with_version-fixed.result =
     subst (λ (f : List (Option ℕ)). FixesVersions table f) (sym now) (fixes_one table place.fixed place.unit k c.requires.fixed low) in
     let child = c.in_ok-children.ensures.child in
-    let few = few_own c.args.nodes c.args.windows.now.items c.in_ok-own.own.items c.is_cheap-relaxed.result c.is_cheap-relaxed.ensures c.in_ok-own.ensures.few c.requires.few_windows in
     record {
       run = c.with_child.ensures.run;
       known = subst (λ (n : Known). IsKnown table n) (sym child.known) child.is.known;
@@ -63,9 +80,8 @@ loop-k-preserved c =
       order = c.in_ok-children.ensures.order;
       long = ap length now ∙ length-set place.fixed place.unit (Some k);
       fixed = λ j. ap (fix place.unit j) now ∙ set-set place.fixed place.unit (Some k) (Some j);
-      children = child_step table c.args.nodes c.args.windows.now.items c.in_ok-own.own.items place.fixed c.with_version-fixed.result place.unit c.args.first k (c.args.first + k)
-          (heap_items c.args.start.leaves) c.loop-k.children c.in_ok-children.children c.loop-k.invariant.children refl now c.requires.free.1 fixes child c.in_ok-own.ensures.searched
-          c.in_ok-own.ensures.value few;
+      children = child_step table c.args.asked.nodes c.args.asked.floor place.fixed c.with_version-fixed.result place.unit c.args.first k (c.args.first + k)
+          (heap_items c.args.start.leaves) c.loop-k.children c.in_ok-children.children c.loop-k.invariant.children refl now child;
     }
 
 pub returns-clause-children : goal.returns-clause-children
@@ -73,5 +89,5 @@ returns-clause-children c =
     let table = c.args.table.now in
     let count = ap (λ (u : CodedUnit). length u.versions.items) c.unit_at.ensures in
     let all : c.loop-k.k ≡ versions_of table c.args.place.unit = omega (arith, c.loop-k-test.false, c.loop-k.auto.k-end, c.len-k-end.ensures.value, count) in
-    subst (λ (n : ℕ). AreChildren table c.args.nodes c.args.windows.now.items c.args.place.fixed c.args.place.unit c.args.first n c.loop-k.children.nodes.items (heap_items c.args.start.leaves)
+    subst (λ (n : ℕ). AreChildren table c.args.asked.nodes c.args.asked.floor c.args.place.fixed c.args.place.unit c.args.first n c.loop-k.children.nodes.items (heap_items c.args.start.leaves)
     (heap_items c.loop-k.children.leaves) c.loop-k.children.known.distortion) all c.loop-k.invariant.children

@@ -14,6 +14,6 @@ invariant-loop-k l = record {
   order : IsOrdered (heap_items l.children.leaves);
   long : length l.fixed ≡ length l.fn.place.fixed;
   fixed : (k : ℕ) → fix l.fn.place.unit k l.fixed ≡ fix l.fn.place.unit k l.fn.place.fixed;
-  children : AreChildren l.table l.nodes l.windows.items l.fn.place.fixed l.fn.place.unit l.first l.k l.children.nodes.items (heap_items l.fn.start.leaves) (heap_items l.children.leaves)
+  children : AreChildren l.table l.fn.asked.nodes l.fn.asked.floor l.fn.place.fixed l.fn.place.unit l.first l.k l.children.nodes.items (heap_items l.fn.start.leaves) (heap_items l.children.leaves)
       l.children.known.distortion;
 }

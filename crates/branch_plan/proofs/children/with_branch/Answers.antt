@@ -5,8 +5,13 @@ use Rattle.dual_bounds.specs.Fixed.{FixesVersions}
 use Rattle.multiplier_search.specs.Windows.{AreSearched}
 use Rattle.bound_certificate.specs.declared.cert.Node.{Node}
 use Rattle.bound_certificate.specs.declared.cert.Node.TheVariants.{Branch, Open}
-use Rattle.bound_certificate.specs.Cert.{IsOfVersion}
-use Rattle.certificate_checker.specs.Shown.{versions_of, windows_in}
+use Rattle.buffer_windows.specs.declared.windows.BufferWindow.{BufferWindow as SeeingWindow}
+use Rattle.multiplier_search.specs.Buffered.{AreSearchedBuffered}
+use Rattle.certificate_checker.specs.Shown.{versions_of}
+use Rattle.branch_plan.specs.Private.Found.{IsReachedAbove, buffers_of, time_of}
+use Rattle.branch_plan.specs.Private.Growth.{node_of}
+use Rattle.branch_plan.specs.Private.Leaves.{MayBranch}
+use Rattle.branch_plan.proofs.Reaching.{buffers_searched, reached_above, time_few, time_searched}
 use Rattle.certificate_checker.proofs.Units.{few_versions_of}
 use Rattle.std.specs.BinaryHeap.{heap_items}
 use Rattle.branch_plan.specs.Private.Branching.{AreChildren, AreLinkedBehind}
@@ -16,12 +21,11 @@ use Rattle.branch_plan.proofs.children.with_branch.Goals as goal
 pub index-requires : goal.index-requires
 index-requires c = omega (arith, (place_open c.args.table.now c.args.nodes c.requires.place.bound c.args.place.number c.args.growth c.requires.place.taken).within)
 
-pub windows_in-windows-requires : goal.windows_in-windows-requires
-windows_in-windows-requires c =
-    let is = c.requires.place in
-    let at = (place_open c.args.table.now c.args.nodes is.bound c.args.place.number c.args.growth is.taken).within in
-    let node = get_or_read c.args.growth.arena.nodes.items c.args.place.number c.index.result.now at c.index.ensures Open in
-    subst (λ (n : Node). IsOfVersion 2 n) (sym node) (is.taken.grown.each c.args.place.number at).version
+pub index-requires-2 : goal.index-requires-2
+index-requires-2 c = omega (arith, (place_open c.args.table.now c.args.nodes c.requires.place.bound c.args.place.number c.args.growth c.requires.place.taken).within)
+
+pub index-requires-3 : goal.index-requires-3
+index-requires-3 c = omega (arith, (place_open c.args.table.now c.args.nodes c.requires.place.bound c.args.place.number c.args.growth c.requires.place.taken).within)
 
 pub children_of-requires-clause-fixed : goal.children_of-requires-clause-fixed
 children_of-requires-clause-fixed c =
@@ -34,14 +38,51 @@ children_of-requires-clause-windows c =
     let is = c.requires.place in
     let at = place_open c.args.table.now c.args.nodes is.bound c.args.place.number c.args.growth is.taken in
     let node = get_or_read c.args.growth.arena.nodes.items c.args.place.number c.index.result.now at.within c.index.ensures Open in
-    subst (λ (ws : List PricedWindow). AreSearched ws) (sym (c.windows_in-windows.ensures ∙ ap windows_in node)) at.searched
+    subst (λ (ws : List PricedWindow). AreSearched ws) (sym (c.time_of-windows.ensures ∙ ap (λ (n : Node). time_of n c.args.growth.found.time.items) node))
+    (time_searched (node_of c.args.growth.arena.nodes.items c.args.place.number) c.args.growth.found.time.items at.searched.0 is.taken.founded.sound.time)
 
 pub children_of-requires-clause-few_windows : goal.children_of-requires-clause-few_windows
 children_of-requires-clause-few_windows c =
     let is = c.requires.place in
-    let at = (place_open c.args.table.now c.args.nodes is.bound c.args.place.number c.args.growth is.taken).within in
-    let node = get_or_read c.args.growth.arena.nodes.items c.args.place.number c.index.result.now at c.index.ensures Open in
-    λ many. omega (arith, ap length (c.windows_in-windows.ensures ∙ ap windows_in node), (is.taken.grown.each c.args.place.number at).few many)
+    let at = place_open c.args.table.now c.args.nodes is.bound c.args.place.number c.args.growth is.taken in
+    let node = get_or_read c.args.growth.arena.nodes.items c.args.place.number c.index.result.now at.within c.index.ensures Open in
+    let own = node_of c.args.growth.arena.nodes.items c.args.place.number in
+    λ many. omega (
+      arith,
+      ap length (c.time_of-windows.ensures ∙ ap (λ (n : Node). time_of n c.args.growth.found.time.items) node),
+      time_few own c.args.growth.found.time.items ((is.taken.grown.each c.args.place.number at.within).few many) (is.taken.founded.sound.few many),
+    )
+
+pub children_of-requires-clause-buffers : goal.children_of-requires-clause-buffers
+children_of-requires-clause-buffers c =
+    let is = c.requires.place in
+    let table = c.args.table.now in
+    let at = place_open table c.args.nodes is.bound c.args.place.number c.args.growth is.taken in
+    let node = get_or_read c.args.growth.arena.nodes.items c.args.place.number c.index-2.result.now at.within c.index-2.ensures Open in
+    subst (λ (ws : List SeeingWindow). AreSearchedBuffered table ws) (sym (c.in_ok-buffers.ensures ∙ ap (λ (n : Node). buffers_of n c.args.growth.found.buffers) node))
+    (buffers_searched table (node_of c.args.growth.arena.nodes.items c.args.place.number) c.args.growth.found.buffers at.searched.1 is.taken.founded.sound.buffers)
+
+pub kept_bound-requires-clause-time : goal.kept_bound-requires-clause-time
+kept_bound-requires-clause-time c = c.requires.place.taken.founded.least
+
+pub children_of-requires-clause-floor : goal.children_of-requires-clause-floor
+children_of-requires-clause-floor c =
+    let is = c.requires.place in
+    let table = c.args.table.now in
+    let growth = c.args.growth in
+    let place = c.args.place in
+    let at = place_open table c.args.nodes is.bound place.number growth is.taken in
+    let own = node_of growth.arena.nodes.items place.number in
+    let first = get_or_read growth.arena.nodes.items place.number c.index.result.now at.within c.index.ensures Open in
+    let second = get_or_read growth.arena.nodes.items place.number c.index-2.result.now at.within c.index-2.ensures Open in
+    let windows_are : c.time_of-windows.result.items ≡ time_of own growth.found.time.items = c.time_of-windows.ensures ∙ ap (λ (n : Node). time_of n growth.found.time.items) first in
+    let buffers_are : c.in_ok-buffers.buffers ≡ buffers_of own growth.found.buffers = c.in_ok-buffers.ensures ∙ ap (λ (n : Node). buffers_of n growth.found.buffers) second in
+    let may = subst (λ (f : List (Option ℕ)). MayBranch table f own is.bound) (sym is.fixed) at.may in
+    let fixes = subst (λ (f : List (Option ℕ)). FixesVersions table f) (sym is.fixed) (is.taken.grown.is.fixes place.number at.within) in
+    subst (λ (bs : List SeeingWindow). IsReachedAbove table c.args.nodes place.fixed place.unit c.time_of-windows.result.items bs c.kept_bound.result) (sym buffers_are)
+    (subst (λ (ws : List PricedWindow). IsReachedAbove table c.args.nodes place.fixed place.unit ws (buffers_of own growth.found.buffers) c.kept_bound.result) (sym windows_are)
+    (reached_above table c.args.nodes place.fixed place.unit own growth.found is.bound growth.root c.kept_bound.result growth.time fixes may (is.taken.grown.each place.number at.within)
+    at.at_least c.kept_bound.ensures.most is.taken.founded.time_is c.kept_bound.ensures.other))
 
 pub link_children-requires-clause-number : goal.link_children-requires-clause-number
 link_children-requires-clause-number c =
@@ -65,18 +106,16 @@ returns-clause-branched c =
     let is = c.requires.place in
     let nodes = growth.arena.nodes.items in
     let children = c.in_ok-made.field-0 in
-    let windows = c.windows_in-windows.result.items in
     let versions = versions_of table place.unit in
-    let at = (place_open table c.args.nodes is.bound place.number growth is.taken).within in
-    let node = get_or_read nodes place.number c.index.result.now at c.index.ensures Open in
+    let floor = c.kept_bound.result in
     let first_is : c.len-first.result ≡ length nodes = omega (arith, c.len-first.ensures) in
-    let kids : AreChildren table c.args.nodes windows place.fixed place.unit (length nodes) versions children.nodes.items (heap_items growth.leaves) (heap_items children.leaves)
+    let kids : AreChildren table c.args.nodes floor place.fixed place.unit (length nodes) versions children.nodes.items (heap_items growth.leaves) (heap_items children.leaves)
     children.known.distortion =
-    subst (λ (n : ℕ). AreChildren table c.args.nodes windows place.fixed place.unit n versions children.nodes.items (heap_items growth.leaves) (heap_items children.leaves) children.known.distortion) first_is
+    subst (λ (n : ℕ). AreChildren table c.args.nodes floor place.fixed place.unit n versions children.nodes.items (heap_items growth.leaves) (heap_items children.leaves) children.known.distortion) first_is
     c.in_ok-made.ensures.children in
     let count_is : c.len.result ≡ versions = omega (arith, c.in_ok-made.ensures.children.count, c.len.ensures) in
     let linked : AreLinkedBehind place.number place.unit versions growth.arena.links.items c.link_children.new.links.items =
     subst (λ (n : ℕ). AreLinkedBehind place.number place.unit n growth.arena.links.items c.link_children.new.links.items) count_is c.in_ok-link_children.ensures in
     let nodes_is : c.append.new.self.items ≡ set nodes place.number (Branch place.unit) ++ children.nodes.items = search rules in
-    branched_growth table c.args.nodes growth _ place windows children.nodes.items growth.arena.links.items is (c.windows_in-windows.ensures ∙ ap windows_in node) kids linked
-    c.in_ok-made.ensures.known c.in_ok-made.ensures.kept c.in_ok-made.ensures.order nodes_is refl
+    branched_growth table c.args.nodes growth _ place children.nodes.items growth.arena.links.items is kids linked
+    c.in_ok-made.ensures.known c.in_ok-made.ensures.kept c.in_ok-made.ensures.order nodes_is c.kept_bound.ensures.most c.kept_bound.ensures.least c.kept_bound.ensures.fits refl refl

@@ -1,25 +1,23 @@
-use Rattle.std.proofs.Common.{◌≡◌, length, arith}
-use Rattle.version_table.specs.Table.{units_of}
-use Rattle.branch_plan.proofs.Changing.{choice_long}
-use Rattle.branch_plan.proofs.FreeRuns.{alone_for_all, rounds_for_all}
+use Rattle.branch_plan.proofs.Debts.{alone_paid, rounds_paid, unfailed}
 use Rattle.branch_plan.proofs.owed.after_owed.Goals as goal
 
-pub change_count-changes-requires-clause-units : goal.change_count-changes-requires-clause-units
-change_count-changes-requires-clause-units c =
-    let long : length c.args.filled.known.choice ≡ length (units_of c.args.table.now) = choice_long c.args.table.now c.args.filled.known.choice c.requires.known.fits in
-    omega (arith, c.len.ensures, long)
+pub returns-then-alone-clause-alone : goal.returns-then-alone-clause-alone
+returns-then-alone-clause-alone c = λ enough. c.requires.owing.alone c.if-alone.true
 
-pub are_gained-requires-clause-few : goal.are_gained-requires-clause-few
-are_gained-requires-clause-few c =
-    let long : length c.args.filled.known.choice ≡ length (units_of c.args.table.now) = choice_long c.args.table.now c.args.filled.known.choice c.requires.known.fits in
-    omega (arith, c.change_count-changes.ensures.few, c.len.ensures, long, c.requires.valid.units)
+pub returns-then-alone-clause-rounds : goal.returns-then-alone-clause-rounds
+returns-then-alone-clause-rounds c = λ changed some helps. absurd (c.requires.owing.alone c.if-alone.true changed helps)
 
-pub returns-else-are_gained-clause-alone : goal.returns-else-are_gained-clause-alone
-returns-else-are_gained-clause-alone c =
-    alone_for_all c.args.table.now c.args.evaluations c.args.filled.used c.args.filled.used c.after_changes.result.choice c.requires.free (omega arith) c.after_changes.ensures.alone
+pub returns-else-found-clause-alone : goal.returns-else-found-clause-alone
+returns-else-found-clause-alone c =
+    let debt = c.args.debt in
+    alone_paid c.args.table.now debt.changes debt.evaluations c.args.owing.left c.after_changes.result.choice c.requires.debt.changes c.requires.owing.pays.for_all
+    c.after_changes.ensures.alone
 
-pub returns-else-are_gained-clause-rounds : goal.returns-else-are_gained-clause-rounds
-returns-else-are_gained-clause-rounds c =
+pub returns-else-found-clause-rounds : goal.returns-else-found-clause-rounds
+returns-else-found-clause-rounds c =
+    let table = c.args.table.now in
+    let debt = c.args.debt in
+    let owing = c.args.owing in
     let known = c.after_changes.result in
-    rounds_for_all c.args.table.now c.args.evaluations c.args.filled.used c.args.filled.used known.choice known.distortion c.args.filled.known.distortion c.args.start c.requires.free
-    (omega arith) c.after_changes.ensures.alone c.after_changes.ensures.rounds c.requires.start
+    rounds_paid table debt.changes debt.evaluations owing.left debt.start owing.known.distortion known.distortion known.choice c.requires.debt.changes
+    (unfailed table debt owing c.if-alone.false c.requires.owing) c.after_changes.ensures.alone c.after_changes.ensures.rounds

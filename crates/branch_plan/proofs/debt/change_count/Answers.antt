@@ -4,7 +4,7 @@ use Rattle.version_table.specs.Table.{units_of}
 use Rattle.certificate_checker.proofs.Units.{few_versions_of}
 use Rattle.branch_plan.specs.Private.Changes.{changes_before}
 use Rattle.branch_plan.proofs.Counting.{before_all, before_more, before_none}
-use Rattle.branch_plan.proofs.free.change_count.Goals as goal
+use Rattle.branch_plan.proofs.debt.change_count.Goals as goal
 
 pub loop-place-init : goal.loop-place-init
 loop-place-init c = record {

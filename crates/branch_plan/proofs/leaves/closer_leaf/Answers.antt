@@ -1,0 +1,14 @@
+use Rattle.branch_plan.proofs.Priced.{seen_leaf_is}
+use Rattle.branch_plan.proofs.leaves.closer_leaf.Goals as goal
+
+pub returns-then-is_enough-clause-leaf : goal.returns-then-is_enough-clause-leaf
+returns-then-is_enough-clause-leaf c =
+    let leaf = c.in_ok-leaf.leaf in
+    seen_leaf_is c.args.table.now c.args.asked.nodes c.args.fixed.now c.args.buffers.now c.args.bound leaf c.args.known c.requires.free.0 c.requires.known c.requires.buffers c.requires.bound
+    c.requires.free.1 c.in_ok-leaf.ensures.node c.in_ok-leaf.ensures.known c.in_ok-leaf.ensures.bound
+
+pub returns-in_ok-leaf-2-clause-leaf : goal.returns-in_ok-leaf-2-clause-leaf
+returns-in_ok-leaf-2-clause-leaf c =
+    let leaf = c.in_ok-leaf-2.leaf in
+    seen_leaf_is c.args.table.now c.args.asked.nodes c.args.fixed.now c.args.buffers.now c.args.bound leaf c.args.known c.requires.free.0 c.requires.known c.requires.buffers c.requires.bound
+    c.requires.free.1 c.in_ok-leaf-2.ensures.node c.in_ok-leaf-2.ensures.known c.in_ok-leaf-2.ensures.bound
