@@ -6,9 +6,11 @@
 #![tactic(auto)]
 
 mod exit;
+mod heard;
 mod names;
 mod program;
 mod sentence;
+mod verdict;
 
 pub use crate::exit::exit_status;
 pub use crate::names::share_one_file;

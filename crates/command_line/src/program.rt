@@ -5,15 +5,21 @@ ghost use Rattle.command_words.specs.Status.{code_of};
 ghost use Rattle.command_words.specs.declared.status.Status.{Status as AnyStatus};
 
 use crate::exit::exit_status;
+use crate::heard::HeardSink;
+use crate::verdict::print_verdict;
 use shelf_kinds::{FileShelf, OutSink};
 use std::rt::Files;
 
-/// Runs a command over the working folder and standard output. The exit status is 2 exactly for words of no command, but for a
+/// Runs a command over the working folder and standard output. Where `impossible` names a window of time in which nothing fits, a sentence
+/// on standard error tells it in seconds and megabits. The exit status is 2 exactly for words of no command, but for a
 /// report that can't be written (7) and want of memory (10).
 pub fn command<R: Files + Print + Eprint + AllocGlobal>(rt: &R, words: &[String]) -> u8
     ensures status { (status : AnyStatus) × (result ≡ code_of status) }
     ensures usage { result ≡ 2 → IsCommand (map string_bytes words.now) → ⊥ }
     ensures no_command { (IsCommand (map string_bytes words.now) → ⊥) → (result ≡ 2) ⊎ ((result ≡ 7) ⊎ (result ≡ 10)) }
 {
-    exit_status(rt, words, &mut FileShelf::new(rt), &mut OutSink::new(rt))
+    let mut out = HeardSink::new(OutSink::new(rt));
+    let code = exit_status(rt, words, &mut FileShelf::new(rt), &mut out);
+    let _ = print_verdict(rt, words, out.line());
+    code
 }

@@ -18,7 +18,8 @@ pub fn print_sentence<R: Eprint>(rt: &R, words: &[String], status: &Status) -> i
         Status::SourceRefused(fault) => print_source(rt, words, fault),
         Status::Unschedulable(miss) => eprintln!(rt;
             "remux: {first}: not even the smallest versions are scheduled: unit {} of stream {}, due at tick {}, misses in \
-             slot {}; a shorter slot, smaller versions or later times may help",
+             slot {}; a shorter slot, smaller versions or later times may help, and `remux impossible TABLE` tells of a table \
+             whether any versions could be",
             miss.unit, miss.stream, miss.due, miss.slot
         ),
         Status::ReadFault => eprintln!(rt;

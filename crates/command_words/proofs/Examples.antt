@@ -4,7 +4,7 @@ use Rattle.std.specs.Str.{all_ascii_digits}
 use Rattle.std.specs.Str.Parse.{digits_value}
 use Rattle.std.proofs.lemmas.Fmt.{decimal_digit, decimal_is_IsNumeral, decimal-digits_value}
 use Rattle.std.proofs.lemmas.Str.Parse.{numerals_by_value, tells_all_ascii_digits}
-use Rattle.command_words.specs.Command.{Plan, Gen, Run, Check, Probe, CheckPlan, IsCommand, IsGenCommand, IsProbeCommand}
+use Rattle.command_words.specs.Command.{Plan, Gen, Run, Check, Probe, CheckPlan, Impossible, IsCommand, IsGenCommand, IsProbeCommand}
 use Rattle.command_words.proofs.Decimals.{decimal_begins_plainly, number_within, pictures_within}
 use Rattle.command_words.proofs.OneCommand.{other_length, other_verb}
 
@@ -43,6 +43,7 @@ are_of_gen seed pictures out (Gen start number name, said) = (start, number, nam
 are_of_gen seed pictures out (Run job stream certificate, said) = absurd (other_verb 103 114 refl said.words_are refl refl (λ same. omega (arith, same)))
 are_of_gen seed pictures out (Check job certificate, said) = let are = said.words_are in cc
 are_of_gen seed pictures out (CheckPlan table certificate, said) = let are = said.words_are in cc
+are_of_gen seed pictures out (Impossible table, said) = let are = said.words_are in cc
 are_of_gen seed pictures out (Probe file number table, said) = absurd (other_verb 103 112 refl said.words_are refl refl (λ same. omega (arith, same)))
 
 -- they have the decimal of a number below 2^64 in the second
@@ -110,6 +111,7 @@ are_of_probe file number table (Gen start count name, said) = absurd (other_verb
 are_of_probe file number table (Run job stream certificate, said) = absurd (other_verb 112 114 refl said.words_are refl refl (λ same. omega (arith, same)))
 are_of_probe file number table (Check job certificate, said) = let are = said.words_are in cc
 are_of_probe file number table (CheckPlan text certificate, said) = let are = said.words_are in cc
+are_of_probe file number table (Impossible text, said) = let are = said.words_are in cc
 are_of_probe file number table (Probe name program made, said) = (name, program, made, said)
 
 -- program 0, which names the network PID
@@ -165,9 +167,26 @@ one_file_for_both (Plan table certificate, said) = let are = said.words_are in a
 one_file_for_both (Gen seed pictures out, said) = let are = said.words_are in cc
 one_file_for_both (Run job out certificate, said) = let are = said.words_are in cc
 one_file_for_both (Probe file number table, said) = let are = said.words_are in cc
+one_file_for_both (Impossible table, said) = let are = said.words_are in cc
 one_file_for_both (Check job certificate, said) = absurd (other_length 10 5 refl said.words_are refl refl (λ same. omega (arith, same)))
 one_file_for_both (CheckPlan table certificate, said) =
     let are = said.words_are in
     let first : table ≡ codes "a" = cc in
     let second : certificate ≡ codes "a" = cc in
     said.apart (first ∙ sym second)
+
+-- ---- impossible
+
+-- a table
+table_alone : IsCommand (codes "impossible" ∷ codes "a" ∷ [])
+table_alone = (Impossible (codes "a"), record { words_are = refl; table_named = λ e. let none = e in cc })
+
+-- no name
+no_name : IsCommand (codes "impossible" ∷ [] ∷ []) → ⊥
+no_name (Impossible table, said) = let are = said.words_are in let none : table ≡ [] = cc in said.table_named none
+no_name (Plan table certificate, said) = let are = said.words_are in cc
+no_name (Gen seed pictures out, said) = let are = said.words_are in cc
+no_name (Run job out certificate, said) = let are = said.words_are in cc
+no_name (Check job certificate, said) = let are = said.words_are in cc
+no_name (Probe file number table, said) = let are = said.words_are in cc
+no_name (CheckPlan table certificate, said) = let are = said.words_are in cc

@@ -1,7 +1,7 @@
 -- Words say one command.
 use Rattle.std.proofs.Common.{◌≡◌, ℕ, List, [], ◌∷◌, Option, Some, None, length, decimal, refl, sym, ap, ◌∙◌, arith}
 use Rattle.std.proofs.lemmas.Fmt.{decimal_injective}
-use Rattle.command_words.specs.Command.{Command, Plan, Gen, Run, Check, Probe, CheckPlan, IsSaid}
+use Rattle.command_words.specs.Command.{Command, Plan, Gen, Run, Check, Probe, CheckPlan, Impossible, IsSaid}
 
 -- the first letter of the verb
 abbrev pub initial : List (List ℕ) → ℕ
@@ -84,6 +84,19 @@ one_command words (Some (CheckPlan text cert)) (Some (Check job certificate)) a 
 one_command words (Some (Check job certificate)) (Some (CheckPlan text cert)) a b = absurd (other_length 5 10 a.words_are b.words_are refl refl (λ same. omega (arith, same)))
 one_command words (Some (CheckPlan text cert)) (Some (Probe file number made)) a b = absurd (other_length 10 5 a.words_are b.words_are refl refl (λ same. omega (arith, same)))
 one_command words (Some (Probe file number made)) (Some (CheckPlan text cert)) a b = absurd (other_length 5 10 a.words_are b.words_are refl refl (λ same. omega (arith, same)))
+one_command words (Some (Impossible table)) (Some (Impossible other)) a b = let x = a.words_are in let y = b.words_are in cc
+one_command words (Some (Impossible table)) (Some (Plan text certificate)) a b = absurd (other_length 10 4 a.words_are b.words_are refl refl (λ same. omega (arith, same)))
+one_command words (Some (Plan text certificate)) (Some (Impossible table)) a b = absurd (other_length 4 10 a.words_are b.words_are refl refl (λ same. omega (arith, same)))
+one_command words (Some (Impossible table)) (Some (Gen seed pictures out)) a b = absurd (other_length 10 3 a.words_are b.words_are refl refl (λ same. omega (arith, same)))
+one_command words (Some (Gen seed pictures out)) (Some (Impossible table)) a b = absurd (other_length 3 10 a.words_are b.words_are refl refl (λ same. omega (arith, same)))
+one_command words (Some (Impossible table)) (Some (Run job out certificate)) a b = absurd (other_length 10 3 a.words_are b.words_are refl refl (λ same. omega (arith, same)))
+one_command words (Some (Run job out certificate)) (Some (Impossible table)) a b = absurd (other_length 3 10 a.words_are b.words_are refl refl (λ same. omega (arith, same)))
+one_command words (Some (Impossible table)) (Some (Check job certificate)) a b = absurd (other_length 10 5 a.words_are b.words_are refl refl (λ same. omega (arith, same)))
+one_command words (Some (Check job certificate)) (Some (Impossible table)) a b = absurd (other_length 5 10 a.words_are b.words_are refl refl (λ same. omega (arith, same)))
+one_command words (Some (Impossible table)) (Some (Probe file number made)) a b = absurd (other_length 10 5 a.words_are b.words_are refl refl (λ same. omega (arith, same)))
+one_command words (Some (Probe file number made)) (Some (Impossible table)) a b = absurd (other_length 5 10 a.words_are b.words_are refl refl (λ same. omega (arith, same)))
+one_command words (Some (Impossible table)) (Some (CheckPlan text cert)) a b = absurd (other_verb 105 99 a.words_are b.words_are refl refl (λ same. omega (arith, same)))
+one_command words (Some (CheckPlan text cert)) (Some (Impossible table)) a b = absurd (other_verb 99 105 a.words_are b.words_are refl refl (λ same. omega (arith, same)))
 one_command words (Some a) None said none = absurd (none (a, said))
 one_command words None (Some b) none said = absurd (none (b, said))
 one_command words None None a b = refl

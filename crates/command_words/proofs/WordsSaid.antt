@@ -1,6 +1,19 @@
 -- Words that are those of no command.
 use Rattle.std.proofs.Common.{◌≡◌, ℕ, List, [], ◌∷◌, subst}
-use Rattle.command_words.specs.Command.{Plan, Gen, Run, Check, Probe, CheckPlan, IsCommand, IsPlanCommand, IsGenCommand, IsRunCommand, IsCheckCommand, IsCheckPlanCommand, IsProbeCommand}
+use Rattle.command_words.specs.Command.{Plan, Gen, Run, Check, Probe, CheckPlan, Impossible, IsCommand, IsPlanCommand, IsGenCommand, IsRunCommand, IsCheckCommand, IsCheckPlanCommand, IsImpossibleCommand, IsProbeCommand}
+
+-- a verb and a word that aren't `impossible`
+pub no_one : (verb name : List ℕ) → (IsImpossibleCommand (verb ∷ name ∷ []) name → ⊥) → IsCommand (verb ∷ name ∷ []) → ⊥
+no_one verb name no_impossible (Impossible table, said) =
+    let are = said.words_are in
+    let a : table ≡ name = cc in
+    no_impossible (subst (λ (x : List ℕ). IsImpossibleCommand (verb ∷ name ∷ []) x) a said)
+no_one verb name no_impossible (Plan table certificate, said) = let are = said.words_are in cc
+no_one verb name no_impossible (Gen seed pictures out, said) = let are = said.words_are in cc
+no_one verb name no_impossible (Run job out certificate, said) = let are = said.words_are in cc
+no_one verb name no_impossible (Check job certificate, said) = let are = said.words_are in cc
+no_one verb name no_impossible (Probe file number table, said) = let are = said.words_are in cc
+no_one verb name no_impossible (CheckPlan table certificate, said) = let are = said.words_are in cc
 
 -- a verb and two words that are none of `plan`, `check` and `check-plan`
 pub no_pair : (verb first second : List ℕ) → (IsPlanCommand (verb ∷ first ∷ second ∷ []) first second → ⊥)
@@ -15,6 +28,7 @@ no_pair verb first second no_plan no_check no_check_plan (Plan table certificate
 no_pair verb first second no_plan no_check no_check_plan (Gen seed pictures out, said) = let are = said.words_are in cc
 no_pair verb first second no_plan no_check no_check_plan (Run job out certificate, said) = let are = said.words_are in cc
 no_pair verb first second no_plan no_check no_check_plan (Probe file number table, said) = let are = said.words_are in cc
+no_pair verb first second no_plan no_check no_check_plan (Impossible table, said) = let are = said.words_are in cc
 no_pair verb first second no_plan no_check no_check_plan (Check job certificate, said) =
     let are = said.words_are in
     let a : job ≡ first = cc in
@@ -46,3 +60,4 @@ no_three verb first second third no_run no_gen no_probe (Run job out certificate
 no_three verb first second third no_run no_gen no_probe (Check job certificate, said) = let are = said.words_are in cc
 no_three verb first second third no_run no_gen no_probe (CheckPlan table certificate, said) = let are = said.words_are in cc
 no_three verb first second third no_run no_gen no_probe (Probe file number table, said) = no_probe file number table said
+no_three verb first second third no_run no_gen no_probe (Impossible table, said) = let are = said.words_are in cc

@@ -17,6 +17,8 @@ pub data Command : Type 0 where
   Probe : (file : List ℕ) → (number : ℕ) → (table : List ℕ) → Command
   -- check a certificate for a table
   CheckPlan : (table certificate : List ℕ) → Command
+  -- whether it is shown of a table that no choice is scheduled
+  Impossible : (table : List ℕ) → Command
 
 -- the words `plan TABLE CERT`: two different file names that aren't empty
 pub record IsPlanCommand (words : List (List ℕ)) (table certificate : List ℕ) : Type 0 where
@@ -68,6 +70,11 @@ pub record IsCheckPlanCommand (words : List (List ℕ)) (table certificate : Lis
   pub certificate_named : certificate ≢ []
   pub apart : table ≢ certificate
 
+-- the words `impossible TABLE`: a file name that isn't empty
+pub record IsImpossibleCommand (words : List (List ℕ)) (table : List ℕ) : Type 0 where
+  pub words_are : words ≡ codes "impossible" ∷ table ∷ []
+  pub table_named : table ≢ []
+
 -- the words of a command
 abbrev pub IsWordsOf : Command → List (List ℕ) → Type 0
 IsWordsOf (Plan table certificate) words = IsPlanCommand words table certificate
@@ -76,6 +83,7 @@ IsWordsOf (Run job out certificate) words = IsRunCommand words job out certifica
 IsWordsOf (Check job certificate) words = IsCheckCommand words job certificate
 IsWordsOf (Probe file number table) words = IsProbeCommand words file number table
 IsWordsOf (CheckPlan table certificate) words = IsCheckPlanCommand words table certificate
+IsWordsOf (Impossible table) words = IsImpossibleCommand words table
 
 -- the words are those of a command
 abbrev pub IsCommand : List (List ℕ) → Type 0

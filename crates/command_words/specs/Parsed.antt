@@ -8,7 +8,8 @@ use Rattle.command_words.specs.declared.command.RunFiles.{RunFiles}
 use Rattle.command_words.specs.declared.command.CheckFiles.{CheckFiles}
 use Rattle.command_words.specs.declared.command.ProbeWords.{ProbeWords}
 use Rattle.command_words.specs.declared.command.CheckPlanFiles.{CheckPlanFiles}
-use Rattle.command_words.specs.Command.{Command, Plan, Gen, Run, Check, Probe, CheckPlan}
+use Rattle.command_words.specs.declared.command.ImpossibleFiles.{ImpossibleFiles}
+use Rattle.command_words.specs.Command.{Command, Plan, Gen, Run, Check, Probe, CheckPlan, Impossible}
 
 -- the command of `plan` with these names
 abbrev pub plan_of : PlanFiles → Option Command
@@ -34,6 +35,10 @@ probe_of words = Some (Probe words.file.now words.program words.table.now)
 abbrev pub check_plan_of : CheckPlanFiles → Option Command
 check_plan_of files = Some (CheckPlan files.table.now files.certificate.now)
 
+-- the command of `impossible` with this name
+abbrev pub impossible_of : ImpossibleFiles → Option Command
+impossible_of files = Some (Impossible files.table.now)
+
 -- the command that was parsed
 abbrev pub command_of : Option Parsed → Option Command
 command_of (Some (parsed.Plan files)) = plan_of files
@@ -42,4 +47,5 @@ command_of (Some (parsed.Run files)) = run_of files
 command_of (Some (parsed.Check files)) = check_of files
 command_of (Some (parsed.Probe words)) = probe_of words
 command_of (Some (parsed.CheckPlan files)) = check_plan_of files
+command_of (Some (parsed.Impossible files)) = impossible_of files
 command_of None = None

@@ -1,6 +1,6 @@
 ghost use Rattle.std.specs.Prelude.{◌≡◌, ◌≢◌, ◌≤◌, ◌<◌, ◌⊎◌, ◌↔◌, ◌∷◌, [], map, length, get_or, IsTrue};
 ghost use Rattle.std.specs.String.{string_bytes};
-ghost use Rattle.command_words.specs.Command.{IsCheckCommand, IsCheckPlanCommand, IsPlanCommand, IsRunCommand, IsSaid};
+ghost use Rattle.command_words.specs.Command.{IsCheckCommand, IsCheckPlanCommand, IsImpossibleCommand, IsPlanCommand, IsRunCommand, IsSaid};
 ghost use Rattle.command_words.specs.Parsed.{command_of};
 ghost use Rattle.command_words.specs.Private.Parsed.{IsDecimal, IsGenSaid, IsProbeSaid};
 
@@ -16,6 +16,7 @@ pub enum Parsed<'a> {
     Check(CheckFiles<'a>),
     Probe(ProbeWords<'a>),
     CheckPlan(CheckPlanFiles<'a>),
+    Impossible(ImpossibleFiles<'a>),
 }
 
 /// The file names of `plan TABLE CERT`.
@@ -78,11 +79,19 @@ pub struct ProbeWords<'a> {
     pub table: &'a str,
 }
 
+/// The file name of `impossible TABLE`.
+#[derive(Clone, Copy)]
+pub struct ImpossibleFiles<'a> {
+    /// The table text.
+    pub table: &'a str,
+}
+
 /// The command that words say; none where they are those of no command.
 pub fn parse(words: &[String]) -> Option<Parsed<'_>>
     ensures { IsSaid (map string_bytes words.now) (command_of result) }
 {
     match words {
+        [verb, name] => parse_one(verb.as_str(), name.as_str()),
         [verb, first, second] => parse_pair(verb.as_str(), first.as_str(), second.as_str()),
         [verb, first, second, third] => parse_three(
             verb.as_str(),
@@ -92,6 +101,23 @@ pub fn parse(words: &[String]) -> Option<Parsed<'_>>
         ),
         _ => None,
     }
+}
+
+/// The command that a verb and a word say.
+fn parse_one<'a>(verb: &str, name: &'a str) -> Option<Parsed<'a>>
+    ensures { IsSaid (verb.now ∷ name.now ∷ []) (command_of result) }
+{
+    if is_impossible(verb, name) {
+        return Some(Parsed::Impossible(ImpossibleFiles { table: name }));
+    }
+    None
+}
+
+/// Whether two words are `impossible TABLE`.
+fn is_impossible(verb: &str, table: &str) -> bool
+    ensures { IsTrue result ↔ IsImpossibleCommand (verb.now ∷ table.now ∷ []) table.now }
+{
+    !table.is_empty() && verb == "impossible"
 }
 
 /// The command that a verb and two words say.

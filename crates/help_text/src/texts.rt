@@ -8,6 +8,8 @@ pub const HELP: &str = "remux: a statistical remultiplexer for MPEG-2 whose prom
                           plan to CERT
   remux check-plan TABLE CERT
                           checks the certificate in CERT against the table of pictures in the file TABLE
+  remux impossible TABLE  tells of the table in the file TABLE whether its smallest versions are scheduled, or it is
+                          proved that no choice of versions is
   remux probe FILE PROGRAM TABLE
                           writes the table of pictures of the program with the program_number PROGRAM (1 to 65535)
                           of the transport stream FILE to TABLE, for slots of 4000 ticks

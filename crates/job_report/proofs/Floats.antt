@@ -1,5 +1,5 @@
 -- Reports have no floats.
-use Rattle.std.proofs.Common.{◌≡◌, ℕ, List, [], ◌∷◌, map, false, refl}
+use Rattle.std.proofs.Common.{◌≡◌, ℕ, List, [], ◌∷◌, map, false, refl, pos, negsuc}
 use Rattle.serde_json.specs.View.{items_of}
 use Rattle.serde_json.specs.Written.{has_float, items_have_float}
 use Rattle.job_report.specs.declared.report.ProgramReport.{ProgramReport}
@@ -10,6 +10,9 @@ use Rattle.job_report.specs.declared.report.Report.TheVariants.{
   Probe,
   Check,
   Gen,
+  ScheduledVerdict,
+  NoRoomVerdict,
+  OpenVerdict,
   Usage,
   TableSyntax,
   TableLimit,
@@ -44,6 +47,10 @@ report_without_float (Run bound distortion nodes programs optimal slots) = rw (p
 report_without_float (Probe audio_packets units) = rw (numbers_without_float audio_packets) refl
 report_without_float (Check bound) = refl
 report_without_float (Gen bytes pictures) = refl
+report_without_float ScheduledVerdict = refl
+report_without_float (NoRoomVerdict due from needed (pos room)) = refl
+report_without_float (NoRoomVerdict due from needed (negsuc room)) = refl
+report_without_float OpenVerdict = refl
 report_without_float Usage = refl
 report_without_float (TableSyntax line) = refl
 report_without_float (TableLimit name) = refl

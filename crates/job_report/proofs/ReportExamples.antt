@@ -1,5 +1,5 @@
 -- Worked examples of report lines, computed from the definitions.
-use Rattle.std.proofs.Common.{◌≡◌, [], ◌∷◌, true, false, codes, refl}
+use Rattle.std.proofs.Common.{◌≡◌, [], ◌∷◌, true, false, codes, refl, pos, negsuc}
 use Rattle.std.specs.Fmt.{digits}
 use Rattle.serde_json.proofs.OnLiterals.{serde_json_on_literals}
 use Rattle.job_report.specs.declared.report.ProgramReport.{ProgramReport}
@@ -9,6 +9,9 @@ use Rattle.job_report.specs.declared.report.Report.TheVariants.{
   Probe,
   Check,
   Gen,
+  ScheduledVerdict,
+  NoRoomVerdict,
+  OpenVerdict,
   Usage,
   TableSyntax,
   TableLimit,
@@ -48,6 +51,23 @@ check = refl
 gen : report_line (Gen 18446744073709551615 12) ≡ codes "{\"bytes\":18446744073709551615,\"pictures\":12}\n"
 unfolding serde_json_on_literals digits
 gen = refl
+
+scheduled : report_line ScheduledVerdict ≡ codes "{\"verdict\":\"scheduled\"}\n"
+unfolding serde_json_on_literals digits
+scheduled = refl
+
+undecided : report_line OpenVerdict ≡ codes "{\"verdict\":\"open\"}\n"
+unfolding serde_json_on_literals digits
+undecided = refl
+
+no_room : report_line (NoRoomVerdict 27200 27200 3 (pos 2)) ≡ codes "{\"due\":27200,\"from\":27200,\"needed\":3,\"room\":2,\"verdict\":\"none\"}\n"
+unfolding serde_json_on_literals digits
+no_room = refl
+
+-- audio alone is one packet more than fits
+no_room_for_audio : report_line (NoRoomVerdict 20000 20000 1 (negsuc 0)) ≡ codes "{\"due\":20000,\"from\":20000,\"needed\":1,\"room\":-1,\"verdict\":\"none\"}\n"
+unfolding serde_json_on_literals digits
+no_room_for_audio = refl
 
 table_syntax : report_line (TableSyntax 2) ≡ codes "{\"line\":2,\"reason\":\"table syntax\",\"status\":3}\n"
 unfolding serde_json_on_literals digits

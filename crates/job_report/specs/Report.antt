@@ -1,6 +1,7 @@
 -- Report lines: one compact JSON object, its keys in the order of their bytes, and a line end.
-use Rattle.std.specs.Prelude.{ℕ, Bool, if◌then◌else◌, List, [], ◌∷◌, ◌++◌, map, codes}
+use Rattle.std.specs.Prelude.{ℕ, Bool, if◌then◌else◌, List, [], ◌∷◌, ◌++◌, map, codes, ℤ}
 use Rattle.serde_json.specs.Data.{Data, number, unsigned, string, array, object, Members, no_members, member}
+use Rattle.serde_json.specs.Find.{of_integer}
 use Rattle.serde_json.specs.View.{items_of}
 use Rattle.serde_json.specs.Written.{compact_text}
 use Rattle.job_report.specs.declared.report.ProgramReport.{ProgramReport}
@@ -11,6 +12,9 @@ use Rattle.job_report.specs.declared.report.Report.TheVariants.{
   Probe,
   Check,
   Gen,
+  ScheduledVerdict,
+  NoRoomVerdict,
+  OpenVerdict,
   Usage,
   TableSyntax,
   TableLimit,
@@ -31,6 +35,10 @@ use Rattle.job_report.specs.declared.report.Report.TheVariants.{
 -- a number, of decimal digits
 abbrev pub json_number : ℕ → Data
 json_number n = number (unsigned n)
+
+-- a whole number, with a sign where it is negative
+abbrev pub json_integer : ℤ → Data
+json_integer n = number (of_integer n)
 
 -- an array of numbers
 abbrev pub json_numbers : List ℕ → Data
@@ -107,6 +115,19 @@ report_object (Check bound) = object_of (
 report_object (Gen bytes pictures) = object_of (
     json_entry (codes "bytes") (json_number bytes)
     ∷ json_entry (codes "pictures") (json_number pictures)
+    ∷ [])
+report_object ScheduledVerdict = object_of (
+    json_entry (codes "verdict") (text_of (codes "scheduled"))
+    ∷ [])
+report_object (NoRoomVerdict due from needed room) = object_of (
+    json_entry (codes "due") (json_number due)
+    ∷ json_entry (codes "from") (json_number from)
+    ∷ json_entry (codes "needed") (json_number needed)
+    ∷ json_entry (codes "room") (json_integer room)
+    ∷ json_entry (codes "verdict") (text_of (codes "none"))
+    ∷ [])
+report_object OpenVerdict = object_of (
+    json_entry (codes "verdict") (text_of (codes "open"))
     ∷ [])
 report_object Usage = object_of (
     json_entry (codes "reason") (text_of (codes "usage"))

@@ -7,8 +7,9 @@ ghost use Rattle.serde_json.specs.Written.{compact_text, has_float};
 ghost use Rattle.job_report.specs.Report.{report_object, report_line};
 
 use crate::objects::{
-    byte_object, check_object, gen_object, line_object, miss_object, named_object, node_object,
-    plan_object, probe_object, reason_object, run_object, source_object,
+    byte_object, check_object, gen_object, line_object, miss_object, named_object, no_room_object,
+    node_object, plan_object, probe_object, reason_object, run_object, source_object,
+    verdict_object,
 };
 use crate::report::Report;
 use list_types::OutOfMemory;
@@ -68,6 +69,14 @@ fn value_of(alloc: Global, report: &Report) -> Result<Value, AllocError>
         } => probe_object(alloc, audio_packets, *units),
         Report::Check { bound } => check_object(alloc, *bound),
         Report::Gen { bytes, pictures } => gen_object(alloc, *bytes, *pictures),
+        Report::ScheduledVerdict => verdict_object(alloc, "scheduled"),
+        Report::NoRoomVerdict {
+            due,
+            from,
+            needed,
+            room,
+        } => no_room_object(alloc, *due, *from, *needed, *room),
+        Report::OpenVerdict => verdict_object(alloc, "open"),
         Report::Usage => reason_object(alloc, "usage", 2),
         Report::TableSyntax { line } => line_object(alloc, *line),
         Report::TableLimit { name } => named_object(alloc, name.as_str(), "table limit", 3),

@@ -4,7 +4,7 @@ ghost use Rattle.std.specs.Prelude.{◌≡◌, [], ◌∷◌, codes, IfOk};
 ghost use Rattle.serde_json.specs.View.{view};
 ghost use Rattle.job_report.specs.Report as spec;
 ghost use Rattle.job_report.specs.Report.{json_number, text_of, json_entry, object_of, search_of, report_object};
-ghost use Rattle.job_report.specs.declared.report.Report.TheVariants.{Plan, Run, Probe, Check, Gen, TableSyntax, Unschedulable, CertSyntax};
+ghost use Rattle.job_report.specs.declared.report.Report.TheVariants.{Plan, Run, Probe, Check, Gen, NoRoomVerdict, TableSyntax, Unschedulable, CertSyntax};
 
 use crate::arrays::{counts, pids, programs, sizes, versions};
 use crate::report::ProgramReport;
@@ -89,6 +89,28 @@ pub(crate) fn check_object(alloc: Global, bound: u64) -> Result<Value, AllocErro
     ensures { IfOk result (λ value. view value ≡ report_object (Check bound)) }
 {
     json!(in alloc; {"bound": bound, "verdict": "yes"})
+}
+
+/// A verdict alone.
+pub(crate) fn verdict_object(alloc: Global, verdict: &str) -> Result<Value, AllocError>
+    ensures { IfOk result (λ value. view value ≡ object_of (json_entry (codes "verdict") (text_of verdict.now) ∷ [])) }
+{
+    json!(in alloc; {"verdict": verdict})
+}
+
+/// A window of time that has too little room.
+pub(crate) fn no_room_object(
+    alloc: Global,
+    due: u64,
+    from: u64,
+    needed: u64,
+    room: i64,
+) -> Result<Value, AllocError>
+    ensures { IfOk result (λ value. view value ≡ report_object (NoRoomVerdict due from needed room)) }
+{
+    json!(in alloc; {
+        "due": due, "from": from, "needed": needed, "room": room, "verdict": "none"
+    })
 }
 
 /// A program that was made.

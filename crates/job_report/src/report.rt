@@ -58,6 +58,17 @@ pub enum Report {
         bytes: u64,
         pictures: u32,
     },
+    /// The smallest choice of a table is scheduled.
+    ScheduledVerdict,
+    /// No choice of a table is scheduled: in this window of time its units need more packets than there is room for.
+    NoRoomVerdict {
+        due: u64,
+        from: u64,
+        needed: u64,
+        room: i64,
+    },
+    /// Neither is shown of a table.
+    OpenVerdict,
     /// The words are no command.
     Usage,
     /// The first line, from 1, that no table text has there.

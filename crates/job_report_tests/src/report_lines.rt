@@ -69,6 +69,26 @@ fn is_line_of_gen(alloc: Global) -> Result<bool, OutOfMemory> {
 }
 
 #[test]
+fn verdicts_are_reported(rt: HostRuntime) -> Result<(), Fail> {
+    for (report, want) in [
+        (Report::ScheduledVerdict, "{\"verdict\":\"scheduled\"}\n"),
+        (
+            Report::NoRoomVerdict {
+                due: 27_200,
+                from: 0,
+                needed: 3,
+                room: -2,
+            },
+            "{\"due\":27200,\"from\":0,\"needed\":3,\"room\":-2,\"verdict\":\"none\"}\n",
+        ),
+        (Report::OpenVerdict, "{\"verdict\":\"open\"}\n"),
+    ] {
+        assert!(rt; is_line(rt.alloc(), report, want)?, "{want}");
+    }
+    Ok(())
+}
+
+#[test]
 fn work_that_was_done_is_reported(rt: HostRuntime) -> Result<(), Fail> {
     let alloc = rt.alloc();
     let are_lines = [

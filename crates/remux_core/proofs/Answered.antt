@@ -5,7 +5,7 @@ use Rattle.shelf_io.specs.Files.{Files}
 use Rattle.command_words.specs.declared.status.Status.{Status}
 use Rattle.command_words.specs.declared.status.Status.TheVariants as statuses
 use Rattle.command_words.specs.Answer.{Answer, EndsWithStatus, Decides, HasCause, AnswerHasCause}
-use Rattle.command_words.specs.Command.{Command, Plan, Gen, Run, Check, Probe, CheckPlan, IsCommand, IsSaid}
+use Rattle.command_words.specs.Command.{Command, Plan, Gen, Run, Check, Probe, CheckPlan, Impossible, IsCommand, IsSaid}
 use Rattle.command_words.specs.Outside.{ShelfFacts, SinkFacts, OnFiles}
 use Rattle.command_words.specs.Status.{IsSameStatus}
 use Rattle.command_words.specs.Task.{OthersStay, no_task}
@@ -26,6 +26,7 @@ done_is_called_for (Some (Run job out certificate)) files after line (work, is, 
 done_is_called_for (Some (Check job certificate)) files after line (made, cert, is, said, same) = (made, cert, is.holds, is.faultless)
 done_is_called_for (Some (Probe file number table)) files after line (program, made, has, said, written) = (program, has.holds)
 done_is_called_for (Some (CheckPlan table certificate)) files after line (made, cert, is, said, same) = (made, cert, is.table_is, is.cert_is, is.faultless)
+done_is_called_for (Some (Impossible table)) files after line ((made, holds, report, is, said), same) = (made, holds)
 done_is_called_for None files after line done = absurd done
 
 -- where nothing failed, a command ends as it is called for
@@ -111,6 +112,7 @@ command_ends (Run job out certificate) old new line cause = cause.1
 command_ends (Check job certificate) old new line cause = cause.1
 command_ends (Probe file number table) old new line cause = cause.1
 command_ends (CheckPlan table certificate) old new line cause = cause.1
+command_ends (Impossible table) old new line cause = cause.1
 
 -- Usage comes for words of no command alone
 usage_of : (words : List (List ℕ)) (old new : ShelfFacts) (out_old out_new : SinkFacts) (command : Option Command) (answer : Option Answer) (result : Status)
@@ -153,6 +155,7 @@ done_leaves_others (Some (Run job out certificate)) files after line (work, is, 
     stays _ after name written ∙ get_other (insert files out work.stream) certificate _ name (λ same. apart (inr same))
     ∙ get_other files out _ name (λ same. apart (inl same))
 done_leaves_others (Some (CheckPlan table certificate)) files after line (made, cert, is, said, same) = λ name apart. stays files after name same
+done_leaves_others (Some (Impossible table)) files after line (told, same) = λ name apart. stays files after name same
 done_leaves_others (Some (Check job certificate)) files after line (made, cert, is, said, same) = λ name apart. stays files after name same
 done_leaves_others (Some (Probe file number table)) files after line (program, made, has, said, written) = λ name apart.
     stays _ after name written ∙ get_other files table _ name apart
@@ -172,6 +175,7 @@ leaves_others (Some (Run job out certificate)) files after (inr (work, is, inr (
     stays _ after name written ∙ get_other (insert files out work.stream) certificate _ name (λ same. apart (inr same))
     ∙ get_other files out _ name (λ same. apart (inl same))
 leaves_others (Some (CheckPlan table certificate)) files after same = λ name apart. stays files after name same
+leaves_others (Some (Impossible table)) files after same = λ name apart. stays files after name same
 leaves_others (Some (Check job certificate)) files after same = λ name apart. stays files after name same
 leaves_others (Some (Probe file number table)) files after (inl same) = λ name apart. stays files after name same
 leaves_others (Some (Probe file number table)) files after (inr (program, made, has, k, few, written)) = λ name apart.

@@ -5,12 +5,13 @@ use Rattle.check_command.specs.CheckCommand.{CheckCallsFor}
 use Rattle.check_plan_command.specs.CheckPlanCommand.{CheckPlanCallsFor}
 use Rattle.command_words.specs.declared.status.Status.{Status}
 use Rattle.command_words.specs.declared.status.Status.TheVariants as statuses
-use Rattle.command_words.specs.Command.{Command, Plan, Gen, Run, Check, Probe, CheckPlan}
+use Rattle.command_words.specs.Command.{Command, Plan, Gen, Run, Check, Probe, CheckPlan, Impossible}
 use Rattle.command_words.specs.Status.{IsSameStatus}
 use Rattle.command_words.specs.Task.{IsUsage}
 use Rattle.command_words.proofs.OneCommand.{one_command}
 use Rattle.command_words.proofs.SameStatus.{both_one}
 use Rattle.gen_command.specs.GenCommand.{GenCallsFor}
+use Rattle.impossible_command.specs.ImpossibleCommand.{ImpossibleCallsFor}
 use Rattle.plan_command.specs.PlanCommand.{PlanCallsFor}
 use Rattle.probe_command.specs.ProbeCommand.{ProbeCallsFor}
 use Rattle.run_command.specs.RunCommand.{RunCallsFor}
@@ -26,6 +27,7 @@ pub record Laws : Type 0 where
   pub probe : (file : List ℕ) (number : ℕ) (files : Files) (s t : Status) → ProbeCallsFor file number (Some files) s → ProbeCallsFor file number (Some files) t → IsSameStatus s t
   pub check_plan : (table certificate : List ℕ) (files : Files) (s t : Status) → CheckPlanCallsFor table certificate (Some files) s
       → CheckPlanCallsFor table certificate (Some files) t → IsSameStatus s t
+  pub impossible : (table : List ℕ) (files : Files) (s t : Status) → ImpossibleCallsFor table (Some files) s → ImpossibleCallsFor table (Some files) t → IsSameStatus s t
 
 -- words of no command call for Usage alone
 usage_is_one : (s : Status) → IsUsage s → statuses.Usage ≡ s
@@ -49,6 +51,7 @@ calls_for_one laws (Some (Run job out certificate)) files s t a b = laws.run job
 calls_for_one laws (Some (Check job certificate)) files s t a b = laws.check job certificate files s t a b
 calls_for_one laws (Some (Probe file number table)) files s t a b = laws.probe file number files s t a b
 calls_for_one laws (Some (CheckPlan table certificate)) files s t a b = laws.check_plan table certificate files s t a b
+calls_for_one laws (Some (Impossible table)) files s t a b = laws.impossible table files s t a b
 calls_for_one laws None files s t a b = both_one statuses.Usage s t (usage_is_one s a) (usage_is_one t b) refl
 
 -- words and files call for one status

@@ -26,6 +26,7 @@ use check_command::laws::check_calls_for_one;
 use check_plan_command::laws::check_plan_calls_for_one;
 use command_words::Status;
 use gen_command::laws::gen_calls_for_one;
+use impossible_command::laws::impossible_calls_for_one;
 use plan_command::laws::plan_calls_for_one;
 use probe_command::laws::probe_calls_for_one;
 use run_command::laws::run_calls_for_one;
@@ -45,6 +46,7 @@ pub fn one_status_is_called_for()
     check_calls_for_one();
     probe_calls_for_one();
     check_plan_calls_for_one();
+    impossible_calls_for_one();
 }
 
 /// The line of each status but that of work that was done tells the exit status.

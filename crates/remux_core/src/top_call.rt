@@ -17,6 +17,8 @@ use check_plan_command::laws::check_plan_calls_for_one;
 use command_words::{Ended, Parsed, Status, end_with, parse};
 use gen_command::gen_file;
 use gen_command::laws::gen_calls_for_one;
+use impossible_command::judge_file;
+use impossible_command::laws::impossible_calls_for_one;
 use job_report::Report;
 use plan_command::laws::plan_calls_for_one;
 use plan_command::plan_file;
@@ -33,8 +35,9 @@ use std::alloc::Global;
 /// `gen SEED PICTURES OUT` write the generated program of a seed with so many pictures to OUT. `run JOB OUT CERT` plan the
 /// programs of the job in JOB, write their stream to OUT and the certificate of the plan to CERT. `check JOB CERT` read the same
 /// programs and check the certificate in CERT. `probe FILE PROGRAM TABLE` write the table of one program of FILE to TABLE.
-/// `check-plan TABLE CERT` check the certificate in CERT for the table in TABLE. All other words are a usage fault. One line of JSON
-/// goes to `out` for each status but want of memory.
+/// `check-plan TABLE CERT` check the certificate in CERT for the table in TABLE. `impossible TABLE` tell whether it is shown of the
+/// table in TABLE that no choice is scheduled. All other words are a usage fault. One line of JSON goes to `out` for each status but
+/// want of memory.
 pub fn run<K: Shelf, O: Sink>(alloc: Global, words: &[String], shelf: &mut K, out: &mut O) -> Status
     // What the words and files decide, what failed outside, how it is reported, and what every command promises.
     ensures outcome { Outcome (map string_bytes words.now)
@@ -74,6 +77,7 @@ pub fn run<K: Shelf, O: Sink>(alloc: Global, words: &[String], shelf: &mut K, ou
     check_calls_for_one();
     probe_calls_for_one();
     check_plan_calls_for_one();
+    impossible_calls_for_one();
     let Some(ended) = perform(alloc, words, shelf) else {
         return Status::OutOfMemory;
     };
@@ -99,6 +103,7 @@ fn perform<K: Shelf>(alloc: Global, words: &[String], shelf: &mut K) -> Option<E
         Some(Parsed::Check(files)) => check_job(alloc, &files, shelf),
         Some(Parsed::Probe(words)) => probe_file(alloc, &words, shelf),
         Some(Parsed::CheckPlan(files)) => check_plan(alloc, &files, shelf),
+        Some(Parsed::Impossible(files)) => judge_file(alloc, &files, shelf),
         None => end_with(alloc, Status::Usage, &Report::Usage),
     }
 }

@@ -10,5 +10,6 @@ returns c =
       check = c.check_calls_for_one.ensures;
       probe = c.probe_calls_for_one.ensures;
       check_plan = c.check_plan_calls_for_one.ensures;
+      impossible = c.impossible_calls_for_one.ensures;
     } in
     words_call_for_one laws

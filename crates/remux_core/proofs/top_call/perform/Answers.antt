@@ -5,7 +5,7 @@ use Rattle.command_words.specs.declared.status.Status.TheVariants.{Usage}
 use Rattle.command_words.specs.declared.command.Parsed.{Parsed}
 use Rattle.command_words.specs.Command.{IsSaid}
 use Rattle.command_words.specs.Outside.{shelf_facts}
-use Rattle.command_words.specs.Parsed.{command_of, plan_of, gen_of, run_of, check_of, probe_of, check_plan_of}
+use Rattle.command_words.specs.Parsed.{command_of, plan_of, gen_of, run_of, check_of, probe_of, check_plan_of, impossible_of}
 use Rattle.command_words.specs.Task.{no_task}
 use Rattle.command_words.proofs.Performed.{performs_uncalled}
 use Rattle.remux_core.proofs.top_call.perform.Goals as goal
@@ -59,4 +59,11 @@ returns-in-Some-CheckPlan g c = record {
   command = check_plan_of c.in-Some-CheckPlan.files;
   said = subst (λ (p : Parsed). IsSaid (map string_bytes c.args.words.now) (command_of (Some p))) c.in-Some-CheckPlan.field-0-is c.in-Some-CheckPlan.ensures;
   performs = c.check_plan.ensures;
+}
+
+pub returns-in-Some-Impossible : goal.returns-in-Some-Impossible
+returns-in-Some-Impossible g c = record {
+  command = impossible_of c.in-Some-Impossible.files;
+  said = subst (λ (p : Parsed). IsSaid (map string_bytes c.args.words.now) (command_of (Some p))) c.in-Some-Impossible.field-0-is c.in-Some-Impossible.ensures;
+  performs = c.judge_file.ensures;
 }

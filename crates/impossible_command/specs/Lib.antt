@@ -1,0 +1,3 @@
+pub mod ImpossibleCommand
+pub mod Private
+pub mod Verdict

@@ -1,0 +1,2 @@
+pub mod NoRoom
+pub mod Private
