@@ -1,4 +1,4 @@
-// The floor beside bench_mux: the same schedule's slots, each a header and 184 bytes that are copied into a packet, handed to a
+// The floor beside `bench_streams mux`: the same schedule's slots, each a header and 184 bytes that are copied into a packet, handed to a
 // sink that counts. It makes no tables, stuffs nothing and looks nothing up: copy_packets SLOTS.
 #include <stdint.h>
 #include <stdio.h>

@@ -1,9 +1,0 @@
-use Rattle.std.proofs.Common.{◌≡◌, All, length}
-use Rattle.bench_mux.specs.Private.Rows.{IsMade}
-use Rattle.bench_mux.proofs.made_rows.made_rows.Given as goal
-
-abbrev pub invariant-loop-n : goal.invariant-loop-n
-invariant-loop-n l = record {
-  size : length l.rows ≡ l.n;
-  made : All IsMade l.rows;
-}
