@@ -20,6 +20,4 @@ mod probes;
 #[cfg(test)]
 mod short_calls;
 #[cfg(test)]
-mod verdicts;
-#[cfg(test)]
 mod words;
