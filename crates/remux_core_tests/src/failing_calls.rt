@@ -297,6 +297,7 @@ fn a_report_that_fails_is_a_write_fault(rt: HostRuntime) -> Result<(), Fail> {
         (["run", "j", "o", "c"].as_slice(), true),
         (["check", "j", "o"].as_slice(), false),
         (["check-plan", "t", "o"].as_slice(), false),
+        (["impossible", "t"].as_slice(), false),
         (["none"].as_slice(), false),
     ] {
         let mut shelf = shelf_of(rt.alloc(), 0)?;

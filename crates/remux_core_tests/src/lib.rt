@@ -20,4 +20,6 @@ mod probes;
 #[cfg(test)]
 mod short_calls;
 #[cfg(test)]
+mod verdicts;
+#[cfg(test)]
 mod words;

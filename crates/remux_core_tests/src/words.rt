@@ -3,7 +3,7 @@ use shelf_kinds::CalmShelf;
 use std::test::Fail;
 
 /// Words that are no command.
-const NO_COMMANDS: [&[&str]; 39] = [
+const NO_COMMANDS: [&[&str]; 42] = [
     &[],
     &["plan", "t"],
     &["plan", "t", "t"],
@@ -33,6 +33,9 @@ const NO_COMMANDS: [&[&str]; 39] = [
     &["check-plan", "t", "t"],
     &["check-plan", "", "c"],
     &["check-plan", "t", ""],
+    &["impossible"],
+    &["impossible", ""],
+    &["impossible", "t", "c"],
     &["probe", "a", "1"],
     &["probe", "a", "0", "t"],
     &["probe", "a", "01", "t"],
