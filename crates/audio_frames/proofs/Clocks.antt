@@ -51,7 +51,7 @@ pub record IsClockOf (clock : Clock) (packets : ℕ) (given : ℤ) (ago : ℕ) :
   pub packets_are : clock.packets ≡ packets
   pub given_is : clock.given ≡ given
   pub ago_is : clock.ago ≡ ago
-  pub rate : 16000 ≤ clock.rate
+  pub rate : (16000 ≤ clock.rate) × (clock.rate ≤ 48000)
   pub time : clock.time ≡ (pos TICKS_PER_TIME_UNIT *ℤ clock.given) +ℤ pos (frame_ticks clock.rate clock.ago)
   pub low : neg_ℤ (pos (2 ^ 54)) ≤ℤ given
   pub high : given ≤ℤ pos (2 ^ 54)

@@ -77,3 +77,7 @@ given_once = refl
 -- floors are taken from the given time on: at 44,100 Hz three frames take 2,115,918 ticks, though one takes 705,306
 ticks : (frame_ticks 44100 1 ≡ 705306) × (frame_ticks 44100 3 ≡ 2115918) × (frame_ticks 48000 1 ≡ 648000)
 ticks = (refl, refl, refl)
+
+-- of 2^38 frames: the product with the ticks of 1,152 seconds has 73 bits
+many_ticks : (frame_ticks 44100 274877906944 ≡ 193873070693564081) × (frame_ticks 16000 274877906944 ≡ 534362651099136000)
+many_ticks = (refl, refl)

@@ -1,6 +1,7 @@
 -- Facts about a whole table, each shown by computing a test over it.
-use Rattle.std.proofs.Common.{◌≡◌, ℕ, ◌<◌, ◌≤◌, ◌*◌, ◌/◌, List, Bool, true, ◌&&◌, nat_le, length, get_or}
-use Rattle.std.proofs.Math.Nat.{div-mul-le_self, mul-le-mul_left, le_trans}
+use Rattle.std.proofs.Common.{◌≡◌, ℕ, ◌+◌, ◌<◌, ◌≤◌, ◌*◌, ◌/◌, ◌%◌, List, Bool, true, ◌&&◌, nat_le, length, get_or, sym, ap, ◌∙◌, subst, arith}
+use Rattle.std.proofs.Math.Nat.{div-mul-le_self, mul-add-div_right, mul-le-mul_left, le_trans}
+use Rattle.std.proofs.lemmas.Nat.{div-add-mod'}
 use Rattle.std.proofs.lemmas.Bool.{and_parts, leb-true}
 use Rattle.std.specs.List.{list_all}
 use Rattle.std.proofs.lemmas.List.Sums.{AllPass-from_list_all}
@@ -19,3 +20,11 @@ entry_within low high xs k passes within =
 -- x / d, where d is at least 16,000
 pub quotient_small : (x d : ℕ) → 16000 ≤ d → x / d * 16000 ≤ x
 quotient_small x d least = le_trans (mul-le-mul_left (x / d) least) (div-mul-le_self x d)
+
+-- the whole quotient and the rest of x, each so many times
+pub quotient_apart : (n x d : ℕ) → 16000 ≤ d → n * (x / d) + n * (x % d) / d ≡ n * x / d
+quotient_apart n x d least =
+    sym (ap (λ (m : ℕ). m / d) (product (x / d) (x % d) x (div-add-mod' x d)) ∙ mul-add-div_right (omega (arith, least)) (n * (x / d)) (n * (x % d)))
+  where
+    product : (q r x : ℕ) → q * d + r ≡ x → n * x ≡ n * q * d + n * r
+    product q r x is = subst (λ (x : ℕ). n * x ≡ n * q * d + n * r) is (omega arith)

@@ -1,5 +1,6 @@
 ghost use Rattle.std.specs.Prelude.{◌≡◌, ℕ, ◌+◌, ◌<◌, ◌≤◌, ◌^◌, length, map, All, IfSome, None, pos, neg_ℤ, ◌+ℤ◌, ◌*ℤ◌, ◌≤ℤ◌, slice_index};
 ghost use Rattle.std.specs.List.Sorted.{IsStrictlyIncreasing};
+ghost use Rattle.audio_frames.specs.declared.limits.TheConstants.{FRAMES_MOST};
 ghost use Rattle.audio_frames.specs.Times.{frame_ticks, given_time};
 ghost use Rattle.audio_frames.specs.Private.Packets.{IsClockAt, IsCountUpTo, start_of, time_between};
 
@@ -41,7 +42,7 @@ impl Clock {
         requires first { (0 < length starts.now) × (start_of starts.now 0 ≡ 0) }
         requires rising { IsStrictlyIncreasing (map (λ start. start.at) starts.now) }
         requires times { All (λ start. IfSome start.time (λ time. (neg_ℤ (pos (2 ^ 54)) ≤ℤ time) × (time ≤ℤ pos (2 ^ 54)))) starts.now }
-        requires rate { 16000 ≤ rate }
+        requires rate { (16000 ≤ rate) × (rate ≤ 48000) }
         requires some { 0 < length places.now }
         ensures clock { IfSome result (IsClockAt starts.now places.now 0) }
         ensures rate { IfSome result (λ clock. clock.rate ≡ rate) }
@@ -61,7 +62,7 @@ impl Clock {
         requires clock { IsClockAt starts.now places.now frame self }
         requires within { frame + 1 < length places.now }
         requires behind { slice_index places.now frame ≤ slice_index places.now (frame + 1) }
-        requires few { frame + 1 < 2 ^ 28 }
+        requires few { frame + 1 < FRAMES_MOST }
         ensures clock { IsClockAt starts.now places.now (frame + 1) result }
         ensures rate { result.rate ≡ self.rate }
     {
@@ -76,8 +77,8 @@ impl Clock {
     fn since(rate: u32, packets: usize, given: i64, ago: u64) -> Clock
         requires low { neg_ℤ (pos (2 ^ 54)) ≤ℤ given }
         requires high { given ≤ℤ pos (2 ^ 54) }
-        requires ago { ago < 2 ^ 28 }
-        requires rate { 16000 ≤ rate }
+        requires ago { ago < FRAMES_MOST }
+        requires rate { (16000 ≤ rate) × (rate ≤ 48000) }
         ensures rate { result.rate ≡ rate }
         ensures packets { result.packets ≡ packets }
         ensures given { result.given ≡ given }
@@ -127,8 +128,8 @@ fn time_between(starts: &[PesStart], from: usize, up_to: usize) -> Option<i64>
 fn time_after(given: i64, ago: u64, rate: u32) -> i64
     requires low { neg_ℤ (pos (2 ^ 54)) ≤ℤ given }
     requires high { given ≤ℤ pos (2 ^ 54) }
-    requires ago { ago < 2 ^ 28 }
-    requires rate { 16000 ≤ rate }
+    requires ago { ago < FRAMES_MOST }
+    requires rate { (16000 ≤ rate) × (rate ≤ 48000) }
     ensures { result ≡ (pos TICKS_PER_TIME_UNIT *ℤ given) +ℤ pos (frame_ticks rate ago) }
 {
     TICKS_PER_UNIT * given + ticks_of(rate, ago) as i64
@@ -136,10 +137,12 @@ fn time_after(given: i64, ago: u64, rate: u32) -> i64
 
 /// Ticks of so many frames.
 fn ticks_of(rate: u32, count: u64) -> u64
-    requires count { count < 2 ^ 28 }
-    requires rate { 16000 ≤ rate }
+    requires count { count < FRAMES_MOST }
+    requires rate { (16000 ≤ rate) × (rate ≤ 48000) }
     ensures ticks { result ≡ frame_ticks rate count }
-    ensures small { result < 2 ^ 54 }
+    ensures small { result < 2 ^ 60 }
 {
-    count * FRAME_TICKS / u64::from(rate)
+    let rate = u64::from(rate);
+    // whole ticks of a frame and the rest of them apart, so that each product has 64 bits
+    count * (FRAME_TICKS / rate) + count * (FRAME_TICKS % rate) / rate
 }

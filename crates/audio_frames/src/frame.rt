@@ -1,4 +1,5 @@
-ghost use Rattle.std.specs.Prelude.{◌<◌, ◌^◌, length, IfOk, IfErr};
+ghost use Rattle.std.specs.Prelude.{◌≤◌, length, IfOk, IfErr};
+ghost use Rattle.audio_frames.specs.declared.limits.TheConstants.{PAYLOAD_BYTES_MOST};
 ghost use Rattle.audio_frames.specs.Times.{AreStarts, AreFramesOf, IsAudioRefused};
 
 use crate::audio_fault::AudioFault;
@@ -15,7 +16,7 @@ pub struct Frame {
     /// before it count.
     pub at: u64,
     /// The number of the bytes. They are the frame, and for the last one also the rest behind it.
-    pub len: u32,
+    pub len: u64,
     /// The time at which it is presented, in ticks of 1/27,000,000 s on the axis of the times of the packets.
     pub time: i64,
 }
@@ -27,7 +28,7 @@ pub fn frames(
     payload: &[u8],
     starts: &[PesStart],
 ) -> Result<ListOf<Frame>, AudioFault>
-    requires size { length payload.now < 2 ^ 30 }
+    requires size { length payload.now ≤ PAYLOAD_BYTES_MOST }
     requires starts { AreStarts (length payload.now) starts.now }
     ensures frames { IfOk result (AreFramesOf payload.now starts.now) }
     ensures refused { IfErr result (IsAudioRefused payload.now starts.now) }

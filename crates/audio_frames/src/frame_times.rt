@@ -1,4 +1,5 @@
-ghost use Rattle.std.specs.Prelude.{◌≡◌, ◌+◌, ◌<◌, ◌≤◌, ◌^◌, ℕ, List, IfOk, IfErr};
+ghost use Rattle.std.specs.Prelude.{◌≡◌, ◌+◌, ◌≤◌, ℕ, List, IfOk, IfErr};
+ghost use Rattle.audio_frames.specs.declared.limits.TheConstants.{PAYLOAD_BYTES_MOST};
 ghost use Rattle.audio_frames.specs.Times.{AreStarts, AreFramesOf};
 ghost use Rattle.audio_frames.specs.Private.Packets.{IsTimedFor, IsTimeRefused};
 ghost use Rattle.audio_frames.specs.Private.Places.{AreApart};
@@ -18,8 +19,8 @@ pub fn timed_frames(
     starts: &[PesStart],
     places: &[u64],
 ) -> Result<ListOf<Frame>, AudioFault>
-    requires size { size < 2 ^ 30 }
-    requires rate { 16000 ≤ rate }
+    requires size { size ≤ PAYLOAD_BYTES_MOST }
+    requires rate { (16000 ≤ rate) × (rate ≤ 48000) }
     requires starts { AreStarts size starts.now }
     requires apart { AreApart places.now size }
     ensures frames { IfOk result (λ frames. (payload : List ℕ) → IsTimedFor payload places.now size rate → AreFramesOf payload starts.now frames) }
@@ -49,15 +50,14 @@ pub fn timed_frames(
 
 /// The frame with the bytes from a place up to another.
 fn frame_of(at: u64, end: u64, time: i64) -> Frame
-    requires order { at ≤ end }
-    requires size { end < 2 ^ 30 }
+    requires { at ≤ end }
     ensures at { result.at ≡ at }
     ensures end { result.at + result.len ≡ end }
     ensures time { result.time ≡ time }
 {
     Frame {
         at,
-        len: (end - at) as u32,
+        len: end - at,
         time,
     }
 }

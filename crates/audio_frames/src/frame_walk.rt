@@ -1,4 +1,5 @@
-ghost use Rattle.std.specs.Prelude.{◌≡◌, ℕ, List, [], ◌++◌, ◌+◌, ◌<◌, ◌≤◌, ◌^◌, drop, length, vec_len, IfOk, IfErr, OnOk};
+ghost use Rattle.std.specs.Prelude.{◌≡◌, ℕ, List, [], ◌++◌, ◌+◌, ◌≤◌, drop, length, vec_len, IfOk, IfErr, OnOk};
+ghost use Rattle.audio_frames.specs.declared.limits.TheConstants.{PAYLOAD_BYTES_MOST};
 ghost use Rattle.audio_frames.specs.Private.Places.{AreApart};
 
 use crate::audio_fault::AudioFault;
@@ -19,7 +20,7 @@ pub struct FrameWalk {
     stage: Stage,
     places: ListOf<u64>,
     ghost apart: { AreApart places at },
-    ghost few: { at + vec_len kept < 2 ^ 30 },
+    ghost few: { at + vec_len kept ≤ PAYLOAD_BYTES_MOST },
 }
 
 impl FrameWalk {
@@ -41,7 +42,7 @@ impl FrameWalk {
 
     /// The walk behind the bytes of the payload that come next. It keeps less of them than a frame and the header behind it.
     pub fn push(self, piece: &[u8]) -> Result<Self, OutOfMemory>
-        requires { bytes_seen self + length piece.now < 2 ^ 30 }
+        requires { bytes_seen self + length piece.now ≤ PAYLOAD_BYTES_MOST }
         ensures walked { IfOk result (λ walk. (payload : List ℕ) → IsWalked payload self → IsWalked (payload ++ piece.now) walk) }
         ensures seen { IfOk result (λ walk. bytes_seen walk ≡ bytes_seen self + length piece.now) }
         ensures kept { IfOk result (λ walk. bytes_kept walk ≤ 3460) }

@@ -1,4 +1,5 @@
-ghost use Rattle.std.specs.Prelude.{◌<◌, ◌^◌, length, IfOk, IfErr};
+ghost use Rattle.std.specs.Prelude.{◌<◌, ◌≤◌, length, IfOk, IfErr};
+ghost use Rattle.audio_frames.specs.declared.limits.TheConstants.{PAYLOAD_BYTES_MOST};
 ghost use Rattle.audio_frames.specs.Times.{AreStarts, AreFramesOf, IsAudioRefused};
 
 use audio_frames::{AudioFault, Frame, FrameWalk, PesStart, frames};
@@ -41,7 +42,7 @@ fn walked(
     starts: &[PesStart],
 ) -> Result<ListOf<Frame>, AudioFault>
     requires some { 0 < size }
-    requires few { length payload.now < 2 ^ 30 }
+    requires few { length payload.now ≤ PAYLOAD_BYTES_MOST }
     requires starts { AreStarts (length payload.now) starts.now }
     ensures frames { IfOk result (AreFramesOf payload.now starts.now) }
     ensures refused { IfErr result (IsAudioRefused payload.now starts.now) }

@@ -5,6 +5,8 @@ use bound_certificate::Node;
 use buffer_windows::{BufferWindow, Charged, charge_of, stop};
 use dual_bounds::Window;
 use dual_bounds::constants::DISTORTION_PARTS;
+use list_types::OutOfMemory;
+use std::alloc::Global;
 use stream_constants::decoder::EB_UNIT_BYTES;
 use stream_constants::packets::PAYLOAD_BYTES;
 use version_table::{Table, Unit, Version};
@@ -28,6 +30,57 @@ pub(crate) fn costs_apart(table: &Table, unit: usize, leaf: &Node) -> u64
         rest -= units.len();
     }
     u64::MAX
+}
+
+/// The units of a table, numbered over all programs in order, that whose two cheapest versions lie closest in these windows first.
+/// Fails only for want of memory.
+pub(crate) fn closest_first(
+    alloc: Global,
+    table: &Table,
+    windows: &[BufferWindow],
+) -> Result<Vec<ApartUnit>, OutOfMemory>
+    requires valid { IsValidTable table.now }
+{
+    let mut units = Vec::new(alloc);
+    for (number, program) in table.programs.as_slice().iter().enumerate() {
+        let owner = Owner {
+            slot: table.slot,
+            number,
+            vbv: program.vbv,
+        };
+        add_units(&mut units, program.units.as_slice(), windows, owner)?;
+    }
+    units.sort_by_key(|unit| unit.apart)?;
+    Ok(units)
+}
+
+/// Adds the units of a program.
+fn add_units(
+    into: &mut Vec<ApartUnit>,
+    units: &[Unit],
+    windows: &[BufferWindow],
+    owner: Owner,
+) -> Result<(), OutOfMemory>
+    requires slot { 1 ≤ owner.slot }
+    requires program { owner.number < 8 }
+{
+    for unit in units {
+        let number = u32::try_from(into.len()).unwrap_or(u32::MAX);
+        into.push(ApartUnit {
+            apart: apart_in_buffers(unit, windows, owner),
+            number,
+        })?;
+    }
+    Ok(())
+}
+
+/// A unit with its number over all programs in order.
+#[derive(Clone, Copy)]
+pub(crate) struct ApartUnit {
+    /// How far apart the costs of its two cheapest versions lie.
+    apart: u64,
+    /// Its number.
+    pub number: u32,
 }
 
 /// What stands for each unit of a program.

@@ -7,12 +7,13 @@ ghost use Rattle.branch_plan.specs.Private.Found.{IsSound};
 ghost use Rattle.branch_plan.specs.Private.Growth.{IsOrdered};
 ghost use Rattle.branch_plan.specs.Private.Known.{IsKnown};
 
+use crate::apart::{ApartUnit, closest_first};
 use crate::arena::{Arena, Link, path_to};
 use crate::changes::unit_at;
 use crate::children::{Place, with_branch};
 use crate::found::{Found, greater_bound};
 use crate::known::Known;
-use crate::leaves::{Asked, closest_unit, leaf_on};
+use crate::leaves::{Asked, leaf_on, unit_to_branch};
 use crate::open::{OpenLeaves, add_leaf, no_leaves, take_least};
 use crate::root::root_bound;
 use dual_bounds::{copied, nothing_fixed};
@@ -85,13 +86,38 @@ pub(crate) fn branched(
     ensures kept { IfOk result (λ ended. ended.known.distortion ≤ known.distortion) }
 {
     let mut growth = rooted(alloc, table, run, known, found, nodes)?;
+    let order = order_for(alloc, table, &growth.found, nodes)?;
     for _branches in 0..nodes {
-        match branch_least(alloc, table, relaxation, run, growth, nodes)? {
+        match branch_least(
+            alloc,
+            table,
+            relaxation,
+            order.as_slice(),
+            run,
+            growth,
+            nodes,
+        )? {
             Step::Grown(grown) => growth = grown,
             Step::Ended(ended) => return Ok(ended),
         }
     }
     unreachable!()
+}
+
+/// In which order the units of a table are branched on at leaves that see the buffers; none where a tree has no branch.
+fn order_for(
+    alloc: Global,
+    table: &Table,
+    found: &Found,
+    nodes: u32,
+) -> Result<Vec<ApartUnit>, OutOfMemory>
+    requires { IsValidTable table.now }
+{
+    if nodes > 1 {
+        closest_first(alloc, table, found.buffers.as_slice())
+    } else {
+        Ok(Vec::new(alloc))
+    }
 }
 
 /// The tree of one node.
@@ -180,6 +206,7 @@ fn branch_least(
     alloc: Global,
     table: &Table,
     relaxation: Option<&LinearRelaxation>,
+    order: &[ApartUnit],
     run: &mut SlotRun<'_>,
     growth: Growth,
     nodes: u32,
@@ -195,7 +222,9 @@ fn branch_least(
     match take_least(&mut growth.leaves) {
         Some(Reverse((bound, number))) => {
             if bound < growth.known.distortion {
-                branch_at(alloc, table, relaxation, run, growth, bound, number, nodes)
+                branch_at(
+                    alloc, table, relaxation, order, run, growth, bound, number, nodes,
+                )
             } else {
                 Ok(Step::Ended(as_best(growth)))
             }
@@ -229,6 +258,7 @@ fn branch_at(
     alloc: Global,
     table: &Table,
     relaxation: Option<&LinearRelaxation>,
+    order: &[ApartUnit],
     run: &mut SlotRun<'_>,
     growth: Growth,
     bound: u64,
@@ -243,7 +273,8 @@ fn branch_at(
     ensures step { IfOk result (EndsOrGrows table.now nodes growth) }
 {
     let fixed = path_to(alloc, table, growth.arena.links.as_slice(), number)?;
-    let Some(unit) = closest_unit(table, &fixed, &growth.arena.nodes[number as usize]) else {
+    let leaf = &growth.arena.nodes[number as usize];
+    let Some(unit) = unit_to_branch(table, &fixed, leaf, order) else {
         unreachable!()
     };
     let versions = unit_at(table, unit as usize).versions.len();

@@ -20,7 +20,7 @@ use crate::changes::unit_at;
 use crate::fitting::kept_bound;
 use crate::found::Found;
 use crate::known::Known;
-use crate::leaves::{Asked, Leaf, leaf_on};
+use crate::leaves::{Asked, Leaf, leaf_on, sees};
 use crate::limits::{NODES_WITH_MANY_WINDOWS_MOST, RELAXED_MOST};
 use crate::open::OpenLeaves;
 use bound_certificate::Node;
@@ -327,17 +327,5 @@ fn buffers_of(alloc: Global, node: &Node, found: &Found) -> Result<BufferWindows
         Node::Run { scheduled: _ } => BufferWindows::copied(alloc, found.buffers.as_slice()),
         Node::Open => BufferWindows::copied(alloc, found.buffers.as_slice()),
         Node::BufferWindow { with } => BufferWindows::copied(alloc, with.as_slice()),
-    }
-}
-
-/// Whether a node has windows that see the buffers.
-fn sees(node: &Node) -> bool {
-    match node {
-        Node::BufferWindow { with: _ } => true,
-        Node::Window { with: _ } => false,
-        Node::Branch { unit: _ } => false,
-        Node::Dual { with: _ } => false,
-        Node::Run { scheduled: _ } => false,
-        Node::Open => false,
     }
 }

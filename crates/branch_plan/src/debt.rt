@@ -2,6 +2,7 @@ ghost use Rattle.std.specs.Prelude.{◌≡◌, ◌≢◌, ◌+◌, ◌-◌, ◌*
 ghost use Rattle.version_table.specs.Table.{IsValidTable, units_of};
 ghost use Rattle.version_table.specs.declared.limits.TheConstants.{VERSIONS_MOST};
 ghost use Rattle.branch_plan.specs.Changes.{change_count};
+ghost use Rattle.branch_plan.specs.declared.limits.TheConstants.{CHANGES_MOST};
 ghost use Rattle.branch_plan.specs.Private.Debt.{CanPay, IsDebtOf, runs_for_all};
 
 use crate::changes::unit_at;
@@ -37,7 +38,7 @@ pub(crate) fn debt_of(table: &Table, units: usize, evaluations: u32, start: u64)
 
 /// Whether the runs are enough for a whole round behind each change.
 pub(crate) fn is_for_all(debt: Debt) -> bool
-    requires few { debt.changes ≤ 33554432 }
+    requires few { debt.changes ≤ CHANGES_MOST }
     ensures yes { result ≡ true → runs_for_all debt.changes ≤ debt.evaluations }
     ensures no { result ≡ false → debt.evaluations < runs_for_all debt.changes }
 {
@@ -47,7 +48,7 @@ pub(crate) fn is_for_all(debt: Debt) -> bool
 /// Whether runs are too few for a whole round behind each change, and a distortion lies below the start by one for each whole
 /// round.
 pub(crate) fn is_paid(debt: Debt, distortion: u64) -> bool
-    requires few { debt.changes ≤ 33554432 }
+    requires few { debt.changes ≤ CHANGES_MOST }
     requires kept { distortion ≤ debt.start }
     ensures few { result ≡ true → debt.evaluations < runs_for_all debt.changes }
     ensures gained { result ≡ true → distortion + debt.evaluations / debt.changes ≤ debt.start }
@@ -60,7 +61,7 @@ pub(crate) fn is_paid(debt: Debt, distortion: u64) -> bool
 
 /// How many of the runs that are left single changes can do without.
 pub(crate) fn free_of(debt: Debt, owing: &Owing) -> u32
-    requires few { debt.changes ≤ 33554432 }
+    requires few { debt.changes ≤ CHANGES_MOST }
     requires kept { owing.now.known.distortion ≤ debt.start }
     requires pays { CanPay debt.changes debt.evaluations debt.start owing.now.known.distortion owing.now.left owing.now.alone }
     ensures within { result ≤ owing.now.left }
@@ -72,7 +73,7 @@ pub(crate) fn free_of(debt: Debt, owing: &Owing) -> u32
 
 /// How many of the runs that are left single changes need.
 fn needed(debt: Debt, owing: &Owing) -> u64
-    requires few { debt.changes ≤ 33554432 }
+    requires few { debt.changes ≤ CHANGES_MOST }
     requires kept { owing.now.known.distortion ≤ debt.start }
     requires pays { CanPay debt.changes debt.evaluations debt.start owing.now.known.distortion owing.now.left owing.now.alone }
     ensures within { result ≤ owing.now.left }

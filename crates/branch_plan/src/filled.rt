@@ -6,7 +6,8 @@ ghost use Rattle.branch_plan.specs.Private.Known.{IsKnown};
 
 use crate::changes::{put, unit_at};
 use crate::corners::corner_at;
-use crate::filling::Filling;
+use crate::filling::{Filling, Reckoned};
+use crate::forward::by_stretches;
 use crate::known::{Known, better};
 use list_types::OutOfMemory;
 use slot_rule::SlotRun;
@@ -15,20 +16,20 @@ use version_table::{Choice, Table, distortion_of, smallest};
 
 /// Runs of the slot rule on choices that fill the room, at most.
 pub(crate) const FILLED_RUNS_MOST: u32 = 128;
-/// With how many parts of the elementary buffers the room is filled, at most.
-const PASSES_MOST: u32 = 4;
-/// Of 100 parts of the elementary buffers, those that are reckoned to be filled at first.
-const FIRST_PERCENT: u64 = 97;
-/// How much more or less is tried.
-const PERCENT_STEP: u64 = 5;
-/// How often the room is filled anew, at most.
-const SWEEPS_MOST: u32 = 16;
-/// How often in a row it is filled anew without a better choice, at most.
-const IDLE_SWEEPS_MOST: u32 = 4;
-/// The same before the first better choice, where the room was filled with other parts before.
-const IDLE_SWEEPS_FIRST: u32 = 2;
+/// Tables of so many units at most are filled twice, as in short ones all units may be due before they could be filled anew.
+const FILLED_TWICE_MOST: usize = 32_768;
+/// What elementary buffers are reckoned to hold at first where a table is filled twice.
+const SHORT_RECKONED: Reckoned = Reckoned {
+    percent: 97,
+    sees_seconds: false,
+};
+/// What they are reckoned to hold.
+const RECKONED: Reckoned = Reckoned {
+    percent: 99,
+    sees_seconds: true,
+};
 /// Packets that are taken off before a miss at first.
-const FIRST_CUT: u32 = 2;
+pub(crate) const FIRST_CUT: u32 = 2;
 /// Packets that are taken off before a miss, at most.
 const CUT_MOST: u32 = 512;
 
@@ -39,8 +40,7 @@ pub(crate) struct Filled {
     pub used: u32,
 }
 
-/// A known choice, or a better one that fills the room there is, found with at most so many runs. It is filled with some parts
-/// of the elementary buffers, then with less, and with more where less isn't better. Fails only for want of memory.
+/// A known choice, or a better one that fills the room there is, found with at most so many runs. Fails only for want of memory.
 pub(crate) fn by_filling(
     alloc: Global,
     table: &Table,
@@ -57,89 +57,20 @@ pub(crate) fn by_filling(
     ensures used { IfOk result (λ filled. filled.used ≤ runs) }
 {
     let most = runs.min(FILLED_RUNS_MOST);
-    let mut best = known;
-    let mut used = 0;
-    let mut percent = FIRST_PERCENT;
-    let mut idle_most = IDLE_SWEEPS_MOST;
-    for _pass in 0..PASSES_MOST {
-        let before = best.distortion;
-        let filled = filled_to(alloc, table, run, best, percent, idle_most, most - used)?;
-        best = filled.known;
-        used += filled.used;
-        match next_percent(percent, best.distortion < before) {
-            Some(next) => percent = next,
-            None => return Ok(Filled { known: best, used }),
-        }
-        idle_most = IDLE_SWEEPS_FIRST;
+    if known.choice.len() > FILLED_TWICE_MOST {
+        return by_stretches(alloc, table, run, known, RECKONED, most);
     }
-    Ok(Filled { known: best, used })
-}
-
-/// How many parts are tried behind these: less at first, and as long as that was better; else more.
-fn next_percent(percent: u64, better: bool) -> Option<u64> {
-    let less = FIRST_PERCENT - PERCENT_STEP;
-    if percent == FIRST_PERCENT || percent <= less && better {
-        Some(percent.saturating_sub(PERCENT_STEP))
-    } else if percent == less {
-        Some(FIRST_PERCENT + PERCENT_STEP)
-    } else if percent > less && better {
-        Some(percent.saturating_add(PERCENT_STEP))
-    } else {
-        None
-    }
-}
-
-/// A known choice, or a better one that fills the room with so many parts of 100 of the elementary buffers. The room is filled
-/// anew, as the runs before have shown it, until they show no more or too often nothing better was found.
-fn filled_to(
-    alloc: Global,
-    table: &Table,
-    run: &mut SlotRun<'_>,
-    known: Known,
-    percent: u64,
-    idle_most: u32,
-    runs: u32,
-) -> Result<Filled, OutOfMemory>
-    requires valid { IsValidTable table.now }
-    requires run { run.old.table ≡ table.now }
-    requires known { IsKnown table.now known }
-    ensures run { run.new.table ≡ table.now }
-    ensures known { IfOk result (λ filled. IsKnown table.now filled.known) }
-    ensures kept { IfOk result (λ filled. filled.known.distortion ≤ known.distortion) }
-    ensures used { IfOk result (λ filled. filled.used ≤ runs) }
-{
-    let mut best = known;
-    let mut used = 0;
-    if runs == 0 {
-        return Ok(Filled { known: best, used });
-    }
-    let mut filling = Filling::new(alloc, table, percent)?;
-    let mut idle_left = idle_most;
-    for _sweep in 0..SWEEPS_MOST {
-        let before = best.distortion;
-        filling.fill(alloc)?;
-        let swept = sweep(alloc, table, run, best, &mut filling, runs - used)?;
-        best = swept.known;
-        used += swept.used;
-        idle_left = idle_after(idle_left, best.distortion < before);
-        if idle_left == 0 || swept.used <= 1 && !filling.is_open() {
-            return Ok(Filled { known: best, used });
-        }
-    }
-    Ok(Filled { known: best, used })
-}
-
-/// How many sweeps may bring nothing better yet, behind one that did or didn't.
-fn idle_after(left: u32, better: bool) -> u32 {
-    if better {
-        IDLE_SWEEPS_MOST
-    } else {
-        left.saturating_sub(1)
-    }
+    let first = by_stretches(alloc, table, run, known, SHORT_RECKONED, most)?;
+    let Filled { known: best, used } = first;
+    let second = by_stretches(alloc, table, run, best, RECKONED, most - used)?;
+    Ok(Filled {
+        known: second.known,
+        used: used + second.used,
+    })
 }
 
 /// A known choice, or a better one: the filled one, less what is too much before each miss.
-fn sweep(
+pub(crate) fn sweep(
     alloc: Global,
     table: &Table,
     run: &mut SlotRun<'_>,
@@ -179,7 +110,7 @@ fn sweep(
 }
 
 /// How many packets are taken off before a miss: twice as many where it is no later than the last.
-fn next_cut(packets: u32, last: u64, due: u64) -> u32 {
+pub(crate) fn next_cut(packets: u32, last: u64, due: u64) -> u32 {
     if due <= last {
         packets.saturating_mul(2).min(CUT_MOST)
     } else {
@@ -188,12 +119,12 @@ fn next_cut(packets: u32, last: u64, due: u64) -> u32 {
 }
 
 /// A choice with the versions that a filling gives.
-fn put_filled(table: &Table, filling: &Filling, choice: Choice) -> Choice
+pub(crate) fn put_filled(table: &Table, filling: &Filling, choice: Choice) -> Choice
     requires fits { Fits table.now choice }
     ensures { Fits table.now result }
 {
     let mut changed = choice;
-    for unit in filling.units.as_slice() {
+    for unit in filling.open_units() {
         let corner = corner_at(filling.corners.as_slice(), unit.at);
         changed = put_version(table, changed, unit.number, corner.version);
     }

@@ -2,16 +2,30 @@ ghost use Rattle.version_table.specs.Table.{IsValidTable};
 
 mod cuts;
 mod rooms;
+mod stretches;
 
 use crate::corners::{Corner, add_corners, corner_at, ratio};
 use cuts::cut_before;
 use list_types::OutOfMemory;
 use multiplier_search::SlackTree;
-use rooms::{are_open, lower, note_in_time, room_beside, set_rooms};
+use rooms::{
+    Buffers, are_open, buffers_of, lower, note_in_time, room_beside, set_below, set_rooms,
+};
 use std::alloc::Global;
 use std::cmp::Reverse;
 use stream_constants::decoder::EB_UNIT_BYTES;
+pub(crate) use stretches::Stretch;
+use stretches::{ahead_of, first_stretch, next_stretch, units_of, whole_stretch};
 use version_table::{ProgramRow, Table};
+
+/// What elementary buffers are reckoned to hold.
+#[derive(Clone, Copy)]
+pub(crate) struct Reckoned {
+    /// So many parts of 100 of them.
+    pub percent: u64,
+    /// Whether no more than what is due within a second, in the versions of the filling before.
+    pub sees_seconds: bool,
+}
 
 /// A unit with the room that its packets share with those of the others, and the version that it has now.
 #[derive(Clone, Copy)]
@@ -26,6 +40,12 @@ pub(crate) struct FilledUnit {
     pub until: usize,
     /// The corner that it has now.
     pub at: usize,
+    /// Its program.
+    pub program: usize,
+    /// The slots that are free for units up to its due time.
+    pub free: i64,
+    /// Those of them that stand more than a second before it.
+    pub passed: i64,
     /// How many packets of units up to it may be sent by its due time.
     pub above: i64,
     /// How many slots for packets of units stand before the first that it may use.
@@ -58,67 +78,152 @@ pub(crate) struct Filling {
     pub units: Vec<FilledUnit>,
     /// The corners of all units.
     pub corners: Vec<Corner>,
-    /// The steps, those that save most for a packet first.
+    /// The steps of the open units, those that save most for a packet first.
     steps: Vec<Step>,
+    /// The units that are filled.
+    open: Stretch,
+    /// Of each program how many packets its elementary buffer is reckoned to hold.
+    buffers: Buffers,
+    /// Whether it is reckoned too that they hold no more than is due within a second.
+    sees_seconds: bool,
+    /// Whether the room was filled before.
+    is_filled: bool,
+    /// Of each unit how many packets all units before it may have, with it and those behind it as they were filled at first.
+    ahead: Vec<i64>,
 }
 
 impl Filling {
-    /// The units of a table, each at its smallest version, where so many parts of 100 of the elementary buffers are reckoned to
-    /// be filled. Fails only for want of memory.
-    pub fn new(alloc: Global, table: &Table, percent: u64) -> Result<Filling, OutOfMemory>
+    /// The units of a table, each at its smallest version. Fails only for want of memory.
+    pub fn new(alloc: Global, table: &Table, reckoned: Reckoned) -> Result<Filling, OutOfMemory>
         requires { IsValidTable table.now }
     {
         let mut units = Vec::new(alloc);
         let mut corners = Vec::new(alloc);
-        let mut steps = Vec::new(alloc);
-        for program in table.programs.as_slice() {
-            add_units(&mut units, &mut corners, program)?;
+        for (number, program) in table.programs.as_slice().iter().enumerate() {
+            add_units(&mut units, &mut corners, program, number)?;
         }
         units.sort_by_key(|unit| unit.due)?;
-        set_rooms(table, units.as_mut_slice(), percent);
-        add_steps(&mut steps, units.as_slice(), corners.as_slice())?;
-        steps.sort_by_key(|step| Reverse(step.ratio))?;
+        let buffers = buffers_of(table, reckoned.percent);
+        set_rooms(table, units.as_mut_slice(), buffers);
+        let open = whole_stretch(units.len());
+        let steps = steps_of(alloc, units.as_slice(), corners.as_slice(), open)?;
         Ok(Filling {
             units,
             corners,
             steps,
+            open,
+            buffers,
+            sees_seconds: reckoned.sees_seconds,
+            is_filled: false,
+            ahead: Vec::new(alloc),
         })
     }
 
-    /// Fills the room anew. Fails only for want of memory.
-    pub fn fill(&mut self, alloc: Global) -> Result<(), OutOfMemory> {
-        empty(self.units.as_mut_slice());
-        let mut room = room_beside(alloc, self.units.as_slice(), self.corners.as_slice())?;
-        fill_units(self.units.as_mut_slice(), self.steps.as_slice(), &mut room);
+    /// Opens the first stretch alone, with all units as they are. Fails only for want of memory.
+    pub fn open_first(&mut self, alloc: Global) -> Result<(), OutOfMemory> {
+        let units = self.units.as_slice();
+        self.ahead = ahead_of(alloc, units, self.corners.as_slice())?;
+        self.open = first_stretch(units, self.ahead.as_slice());
+        self.steps = steps_of(alloc, units, self.corners.as_slice(), self.open)?;
         Ok(())
+    }
+
+    /// Closes the open stretch and opens the next one, and tells whether there is one. Fails only for want of memory.
+    pub fn open_next(&mut self, alloc: Global) -> Result<bool, OutOfMemory> {
+        let units = self.units.as_slice();
+        let corners = self.corners.as_slice();
+        match next_stretch(units, corners, self.ahead.as_slice(), self.open) {
+            Some(next) => {
+                self.open = next;
+                self.steps = steps_of(alloc, units, corners, next)?;
+                Ok(true)
+            }
+            None => Ok(false),
+        }
+    }
+
+    /// Opens all units.
+    pub fn open_all(&mut self) {
+        self.open = whole_stretch(self.units.len());
+    }
+
+    /// The due time of the last open unit; of the last slot where nothing is behind it.
+    pub fn last_due(&self) -> u64 {
+        match self.units.get(self.open.until) {
+            Some(unit) => unit.due,
+            None => u64::MAX,
+        }
+    }
+
+    /// Fills the room of the open units anew. Fails only for want of memory.
+    pub fn fill(&mut self, alloc: Global) -> Result<(), OutOfMemory> {
+        let open = self.open;
+        if self.is_filled && self.sees_seconds {
+            set_below(
+                self.units.as_mut_slice(),
+                self.corners.as_slice(),
+                open,
+                self.buffers,
+            );
+        }
+        self.is_filled = true;
+        empty(self.units.as_mut_slice(), open);
+        let mut room = room_beside(alloc, self.units.as_slice(), self.corners.as_slice(), open)?;
+        fill_units(
+            self.units.as_mut_slice(),
+            self.steps.as_slice(),
+            &mut room,
+            open.first,
+        );
+        Ok(())
+    }
+
+    /// The open units.
+    pub fn open_units(&self) -> &[FilledUnit] {
+        units_of(self.units.as_slice(), self.open)
+    }
+
+    /// The distortion of the open units.
+    pub fn open_distortion(&self) -> u64 {
+        let mut total: u64 = 0;
+        for unit in self.open_units() {
+            total = total.saturating_add(corner_at(self.corners.as_slice(), unit.at).distortion);
+        }
+        total
+    }
+
+    /// Puts the open units at other corners, in order.
+    pub fn put_back(&mut self, kept: &[FilledUnit]) {
+        let mut place = self.open.first;
+        for unit in kept {
+            put_at(self.units.as_mut_slice(), place, unit.at);
+            place = place.saturating_add(1);
+        }
     }
 
     /// Lowers the room before a miss, by so many packets where it isn't known how many are sent in time, and takes as many off the
     /// units that are due shortly before it.
     pub fn lower_before(&mut self, due: u64, packets: u32) {
-        let less = lower(
-            self.units.as_mut_slice(),
-            self.corners.as_slice(),
-            due,
-            packets,
-        );
-        cut_before(
-            self.units.as_mut_slice(),
-            self.corners.as_slice(),
-            due,
-            less,
-        );
+        let units = self.units.as_mut_slice();
+        let corners = self.corners.as_slice();
+        let less = lower(units, corners, self.open, due, packets);
+        let before = cut_before(units, corners, self.open, due, less);
+        self.open.sent = self.open.sent.saturating_sub(before);
     }
 
     /// Notes how many packets are sent in time where there were misses, and raises the room there halfway to the fewest that
     /// were too many.
     pub fn note_in_time(&mut self) {
-        note_in_time(self.units.as_mut_slice(), self.corners.as_slice());
+        note_in_time(
+            self.units.as_mut_slice(),
+            self.corners.as_slice(),
+            self.open,
+        );
     }
 
     /// Whether there is a number somewhere between the packets that were sent in time and those that were missed.
     pub fn is_open(&self) -> bool {
-        are_open(self.units.as_slice())
+        are_open(self.open_units())
     }
 }
 
@@ -127,6 +232,7 @@ fn add_units(
     units: &mut Vec<FilledUnit>,
     corners: &mut Vec<Corner>,
     program: &ProgramRow,
+    number: usize,
 ) -> Result<(), OutOfMemory> {
     let bytes = EB_UNIT_BYTES.saturating_mul(u64::from(program.vbv));
     for unit in program.units.as_slice() {
@@ -138,6 +244,9 @@ fn add_units(
             first,
             until: corners.len(),
             at: first,
+            program: number,
+            free: 0,
+            passed: 0,
             above: 0,
             below: 0,
             in_time: i64::MIN,
@@ -147,16 +256,21 @@ fn add_units(
     Ok(())
 }
 
-/// Adds the steps of all units.
-fn add_steps(
-    steps: &mut Vec<Step>,
+/// The steps of the open units, those that save most for a packet first.
+fn steps_of(
+    alloc: Global,
     units: &[FilledUnit],
     corners: &[Corner],
-) -> Result<(), OutOfMemory> {
-    for (number, unit) in units.iter().enumerate() {
-        add_steps_of(steps, corners, number, *unit)?;
+    open: Stretch,
+) -> Result<Vec<Step>, OutOfMemory> {
+    let mut steps = Vec::new(alloc);
+    for place in open.first..open.until {
+        if place < units.len() {
+            add_steps_of(&mut steps, corners, place, units[place])?;
+        }
     }
-    Ok(())
+    steps.sort_by_key(|step| Reverse(step.ratio))?;
+    Ok(steps)
 }
 
 /// Adds the steps of a unit.
@@ -181,20 +295,30 @@ fn add_steps_of(
     Ok(())
 }
 
-/// Gives each unit its smallest version.
-fn empty(units: &mut [FilledUnit]) {
-    for place in 0..units.len() {
-        units[place].at = units[place].first;
+/// Gives each open unit its smallest version.
+fn empty(units: &mut [FilledUnit], open: Stretch) {
+    for place in open.first..open.until {
+        if place < units.len() {
+            units[place].at = units[place].first;
+        }
+    }
+}
+
+/// Puts a unit at a corner.
+pub(crate) fn put_at(units: &mut [FilledUnit], place: usize, corner: usize) {
+    if place < units.len() {
+        units[place].at = corner;
     }
 }
 
 /// Takes the steps in order, each where the unit has come to it and there is room.
-fn fill_units(units: &mut [FilledUnit], steps: &[Step], room: &mut SlackTree) {
+fn fill_units(units: &mut [FilledUnit], steps: &[Step], room: &mut SlackTree, first: usize) {
     for step in steps {
         if step.unit < units.len() && units[step.unit].at.saturating_add(1) == step.corner {
             let packets = i64::from(step.packets);
-            if packets <= room.of(step.unit) {
-                room.take(step.unit, packets);
+            let place = step.unit.saturating_sub(first);
+            if packets <= room.of(place) {
+                room.take(place, packets);
                 units[step.unit].at = step.corner;
             }
         }

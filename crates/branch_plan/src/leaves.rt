@@ -1,4 +1,4 @@
-ghost use Rattle.std.specs.Prelude.{◌≡◌, ◌<◌, ◌≤◌, ℕ, true, false, length, slice_index_or, Some, None, IfOk, MatchOption};
+ghost use Rattle.std.specs.Prelude.{◌≡◌, ◌<◌, ◌≤◌, ℕ, true, false, length, slice_index_or, Some, None, IfOk, IfSome, MatchOption};
 ghost use Rattle.version_table.specs.Choice.{Fits, distortion_of_choice};
 ghost use Rattle.version_table.specs.Table.{IsValidTable, units_of};
 ghost use Rattle.slot_rule.specs.Schedule.{IsScheduled};
@@ -18,7 +18,7 @@ ghost use Rattle.branch_plan.specs.Private.Changes.{unit_at};
 ghost use Rattle.branch_plan.specs.Private.Found.{IsNoLower, IsReached};
 ghost use Rattle.branch_plan.specs.Private.Leaves.{IsFreeUnit, IsLeafOn};
 
-use crate::apart::costs_apart;
+use crate::apart::{ApartUnit, costs_apart};
 use crate::changes::unit_at;
 use crate::found::seen_bound;
 use crate::known::{Known, better};
@@ -98,7 +98,7 @@ pub(crate) fn free_unit(table: &Table, fixed: &Fixed) -> Option<u32>
 
 /// A unit of two or more versions of which none is fixed: the first whose two cheapest versions lie closest at the prices of a
 /// leaf, so that its children's bounds rise most on the whole; none where one choice is left.
-pub(crate) fn closest_unit(table: &Table, fixed: &Fixed, leaf: &Node) -> Option<u32>
+fn closest_unit(table: &Table, fixed: &Fixed, leaf: &Node) -> Option<u32>
     requires valid { IsValidTable table.now }
     requires fixed { FixesVersions table.now fixed.now }
     ensures { MatchOption result (LeavesOne table.now fixed.now) (IsFreeUnit table.now fixed.now) }
@@ -118,6 +118,55 @@ pub(crate) fn closest_unit(table: &Table, fixed: &Fixed, leaf: &Node) -> Option<
         }
     }
     closest
+}
+
+/// The same at a leaf that may see the buffers, where the units stand in this order for all such leaves of its tree: these have
+/// the same windows.
+pub(crate) fn unit_to_branch(
+    table: &Table,
+    fixed: &Fixed,
+    leaf: &Node,
+    order: &[ApartUnit],
+) -> Option<u32>
+    requires valid { IsValidTable table.now }
+    requires fixed { FixesVersions table.now fixed.now }
+    ensures { MatchOption result (LeavesOne table.now fixed.now) (IsFreeUnit table.now fixed.now) }
+{
+    if sees(leaf) {
+        match first_free(table, fixed, order) {
+            Some(unit) => Some(unit),
+            None => closest_unit(table, fixed, leaf),
+        }
+    } else {
+        closest_unit(table, fixed, leaf)
+    }
+}
+
+/// The first of these units of which none of two or more versions is fixed.
+fn first_free(table: &Table, fixed: &Fixed, order: &[ApartUnit]) -> Option<u32>
+    requires valid { IsValidTable table.now }
+    requires fixed { FixesVersions table.now fixed.now }
+    ensures { IfSome result (IsFreeUnit table.now fixed.now) }
+{
+    for unit in order {
+        let number = unit.number as usize;
+        if number < fixed.len() && is_free(table, fixed, number) {
+            return Some(unit.number);
+        }
+    }
+    None
+}
+
+/// Whether a node has windows that see the buffers.
+pub(crate) fn sees(node: &Node) -> bool {
+    match node {
+        Node::BufferWindow { with: _ } => true,
+        Node::Window { with: _ } => false,
+        Node::Branch { unit: _ } => false,
+        Node::Dual { with: _ } => false,
+        Node::Run { scheduled: _ } => false,
+        Node::Open => false,
+    }
 }
 
 /// Whether a unit has two or more versions, of which none is fixed.

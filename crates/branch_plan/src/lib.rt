@@ -14,6 +14,7 @@ mod debt;
 mod filled;
 mod filling;
 mod fitting;
+mod forward;
 mod found;
 mod known;
 mod leaves;

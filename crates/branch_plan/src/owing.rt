@@ -2,6 +2,7 @@ ghost use Rattle.std.specs.Prelude.{◌≡◌, ◌-◌, ◌<◌, ◌≤◌, ℕ,
 ghost use Rattle.version_table.specs.declared.table.Table.{Table as CodedTable};
 ghost use Rattle.version_table.specs.Table.{IsValidTable, units_of};
 ghost use Rattle.branch_plan.specs.declared.debt.Debt.{Debt as Owed};
+ghost use Rattle.branch_plan.specs.declared.limits.TheConstants.{CHANGES_MOST};
 ghost use Rattle.branch_plan.specs.Private.Debt.{CanPay, IsDebtOf, IsOwing, runs_for_all};
 ghost use Rattle.branch_plan.specs.Private.Known.{IsKnown};
 
@@ -81,7 +82,7 @@ fn after_first_changes(table: &Table, run: &mut SlotRun<'_>, debt: Debt, owing: 
 
 /// Whether the filling has all runs that it could use or that are left, or single changes bring no more.
 fn may_fill(debt: Debt, owing: &Owing) -> bool
-    requires few { debt.changes ≤ 33554432 }
+    requires few { debt.changes ≤ CHANGES_MOST }
     requires kept { owing.now.known.distortion ≤ debt.start }
     requires pays { CanPay debt.changes debt.evaluations debt.start owing.now.known.distortion owing.now.left owing.now.alone }
     ensures alone { result ≡ false → owing.now.alone ≡ false }

@@ -5,9 +5,8 @@ use Rattle.version_table.specs.declared.table.AudioPacket.{AudioPacket}
 use Rattle.version_table.specs.declared.table.Unit.{Unit as CodedUnit}
 use Rattle.version_table.specs.declared.table.Version.{Version}
 use Rattle.version_table.specs.declared.table.Table.{Table}
-use Rattle.slot_rule.specs.declared.row.Row.{Row}
 use Rattle.slot_rule.specs.Schedule.{IsFirstMiss, IsScheduled}
-use Rattle.slot_rule.proofs.RuleRun.{Run, Clean, Missed, first_rows, IsSchedule-from_run, IsFirstMiss-from_run}
+use Rattle.slot_rule.proofs.RuleRun.{first_rows, IsSchedule-from_run, IsFirstMiss-from_run}
 use Rattle.buffer_windows.specs.declared.windows.BufferWindow.{BufferWindow}
 use Rattle.buffer_windows.specs.Bounds.{bound_of_byte_value as bound_of_value, bound_of_buffer_windows as bound_of_windows}
 use Rattle.buffer_windows.specs.Charges.{charges}

@@ -1,8 +1,8 @@
 -- The bytes in a decoder's buffer at a time: no more than the buffer holds, whatever has gone before.
-use Rattle.std.proofs.Common.{◌≡◌, ℕ, ◌+◌, ◌*◌, ◌≤◌, Bool, true, false, cond, ◌&&◌, List, [], ◌∷◌, ◌++◌, length, eqb, ltb, ne_eqb, sum_by, slice_get, Some, refl, sym, ap, ap₂, subst, ◌∙◌, inl, inr, lt-ltb, le-ltb, zero-add, mul-le-mul_right, arith}
-use Rattle.std.proofs.lemmas.Bool.{cases_Bool, cases_lt, cases_eq}
+use Rattle.std.proofs.Common.{◌≡◌, ℕ, ◌+◌, ◌*◌, ◌≤◌, Bool, true, false, cond, ◌&&◌, List, [], ◌∷◌, ◌++◌, length, eqb, ltb, ne_eqb, slice_get, Some, refl, sym, ap, subst, ◌∙◌, inl, inr, lt-ltb, le-ltb, mul-le-mul_right, arith}
+use Rattle.std.proofs.lemmas.Bool.{cases_lt, cases_eq}
 use Rattle.std.proofs.lemmas.List.{length_push}
-use Rattle.std.proofs.lemmas.List.Sums.{sum_by-cons, sum_by-append, sum_by_push, sum_by-le-sum_by}
+use Rattle.std.proofs.lemmas.List.Sums.{sum_by_push, sum_by-le-sum_by}
 use Rattle.std.proofs.lemmas.Option.{same_Some}
 use Rattle.version_table.specs.declared.table.Table.{Table}
 use Rattle.slot_rule.specs.declared.queue_kind.QueueKind.{QueueKind}
@@ -14,7 +14,6 @@ use Rattle.slot_rule.specs.Queues.{Queue, queues_of}
 use Rattle.slot_rule.specs.Schedule.{FollowRule, IsHead}
 use Rattle.slot_rule.proofs.RuleFronts.{by_push}
 use Rattle.slot_rule.proofs.RuleRows.{IsNext, FollowRule-front, FollowRule-last}
-use Rattle.slot_rule.proofs.RuleSent.{packet_of, packets_sent, payload_after, outstanding-sent}
 
 -- ---- later, fewer bytes are still in the buffer
 after_le : (same : Bool) (time later gone payload : ℕ) → time ≤ later → cond (same && ltb later gone) payload 0 ≤ cond (same && ltb time gone) payload 0

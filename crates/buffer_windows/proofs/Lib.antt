@@ -7,6 +7,7 @@ mod FreeBetween
 mod Fronts
 pub mod Held
 mod LastDue
+mod NearWindows
 mod OwnedCosts
 pub mod Parts
 pub mod PlainCosts

@@ -1,5 +1,5 @@
 -- The room of a window of time, taken as a window that counts no buffer: in bytes no more than its packets have.
-use Rattle.std.proofs.Common.{◌≡◌, ℕ, zero, suc, ◌+◌, ◌-◌, ◌*◌, ◌/◌, ◌%◌, ◌^◌, ◌<◌, ◌≤◌, Bool, true, false, cond, not, nat_le, nat_lt, ◌==◌, ◌&&◌, ◌||◌, max, All, List, [], ◌∷◌, ◌++◌, length, map, take, drop, filter, fold, count_by, sum_by, is_none, refl, sym, ap, ◌∙◌, inl, inr, lt-ltb, eq-eqb, add-zero, lt_of_lt_of_le, div-le_self, length-take, length-drop, div-add-mod', div-mul-le_self, mod-lt, mul-le-mul_right, suc-mul, arith}
+use Rattle.std.proofs.Common.{◌≡◌, ℕ, zero, suc, ◌+◌, ◌-◌, ◌*◌, ◌/◌, ◌%◌, ◌^◌, ◌<◌, ◌≤◌, Bool, true, false, cond, not, nat_le, nat_lt, ◌==◌, ◌&&◌, ◌||◌, max, All, List, [], ◌∷◌, length, map, take, drop, filter, fold, count_by, sum_by, is_none, refl, sym, ap, ◌∙◌, inl, inr, lt-ltb, eq-eqb, add-zero, lt_of_lt_of_le, div-le_self, length-take, length-drop, div-add-mod', div-mul-le_self, mod-lt, mul-le-mul_right, suc-mul, arith}
 use Rattle.std.specs.List.{enumerate_from, flat_map, list_any, range_with_len}
 use Rattle.std.specs.Int.{div_ceil}
 use Rattle.std.proofs.lemmas.Bool.{cases_Bool, cases_lt, and_parts, and_from, and_right, cond-false, or_parts, or_left, or_right, le-leb, leb-true, lt-leb, le-ltb, ltb-true, not-true, ne_eqb, false≢true, false_from_ne_true}

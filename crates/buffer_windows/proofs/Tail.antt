@@ -16,7 +16,7 @@ use Rattle.slot_rule.specs.declared.row.Row.TheVariants.{Reserved, Carries, Empt
 use Rattle.slot_rule.specs.Buffers.{is_of, mb_work, payload_in, slot_subticks, waiting}
 use Rattle.slot_rule.specs.Queues.{Queue, queues_of}
 use Rattle.slot_rule.specs.Schedule.{FollowRule, IsHead, NoMiss, end_with_margin, mb_or_tb_work}
-use Rattle.slot_rule.proofs.RuleFronts.{AtEach-front, by_push}
+use Rattle.slot_rule.proofs.RuleFronts.{by_push}
 use Rattle.slot_rule.proofs.RuleRows.{IsNext, NoneMisses, FollowRule-front, FollowRule-last, NoMiss-last}
 use Rattle.slot_rule.proofs.RuleSent.{packet_of, packet_of-carried, packet_of-other, packets_sent, packets_sent-push}
 use Rattle.dual_bounds.specs.declared.constants.TheConstants.{MARGIN_TICKS}

@@ -9,6 +9,7 @@ mod audio;
 mod buffers;
 pub mod constants;
 pub mod laws;
+mod near;
 mod prices;
 mod rooms;
 mod values;

@@ -1,11 +1,14 @@
 ghost use Rattle.std.specs.Prelude.{◌≡◌, ◌+◌, ◌*◌, ◌≤◌, ◌<◌, ◌^◌, ℕ, length};
 ghost use Rattle.buffer_windows.specs.Charges.{charged_bytes as charge};
 ghost use Rattle.buffer_windows.specs.Charged.{charged_for, in_packets};
+ghost use Rattle.buffer_windows.specs.Private.Near.{IsNear};
 ghost use Rattle.buffer_windows.specs.Private.Prices.{charged_by};
+ghost use Rattle.buffer_windows.specs.declared.constants.TheConstants.{BUFFER_WINDOWS_MOST};
 ghost use Rattle.buffer_windows.specs.Windows.{ArePriced, stop};
 ghost use Rattle.dual_bounds.specs.declared.constants.TheConstants.{LAMBDA_MOST};
 
 use crate::buffers::counts_buffer;
+use crate::near::Near;
 use crate::rooms::{beginning, latest, stop};
 use crate::windows::BufferWindow;
 
@@ -29,8 +32,31 @@ pub struct Prices {
     pub packets: u64,
 }
 
+/// What some windows charge for the bytes of a unit of the program of this number that is due then, where these of them are near.
+pub(crate) fn near_prices(
+    slot: u32,
+    windows: &[BufferWindow],
+    near: &Near,
+    program: usize,
+    due: u64,
+) -> Prices
+    requires slot { 1 ≤ slot }
+    requires program { program < 8 }
+    requires priced { ArePriced windows.now }
+    requires near { IsNear slot windows.now near.now }
+    ensures value { (bytes : ℕ) → charged_by slot windows.now program due bytes ≡ result.bytes * bytes + result.packets * in_packets bytes }
+    ensures bytes { result.bytes ≤ BUFFER_WINDOWS_MOST * LAMBDA_MOST }
+    ensures packets { result.packets ≤ BUFFER_WINDOWS_MOST * LAMBDA_MOST }
+{
+    if near.serves(due) {
+        prices_of(slot, near.as_slice(), program, due)
+    } else {
+        prices_of(slot, windows, program, due)
+    }
+}
+
 /// What some windows charge for the bytes of a unit of the program of this number that is due then.
-pub(crate) fn prices_of(slot: u32, windows: &[BufferWindow], program: usize, due: u64) -> Prices
+fn prices_of(slot: u32, windows: &[BufferWindow], program: usize, due: u64) -> Prices
     requires slot { 1 ≤ slot }
     requires program { program < 8 }
     requires priced { ArePriced windows.now }

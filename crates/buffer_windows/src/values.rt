@@ -8,13 +8,15 @@ ghost use Rattle.dual_bounds.specs.declared.constants.TheConstants.{LAMBDA_MOST}
 ghost use Rattle.dual_bounds.specs.Fixed.{FixesVersions, NamesVersion};
 ghost use Rattle.buffer_windows.specs.Bounds.{IsBoundOrNone, bound_of_byte_value as bound_of_value, bound_of_buffer_windows as bound_of_windows, each_has_left};
 ghost use Rattle.buffer_windows.specs.Charges.{owned_units};
+ghost use Rattle.buffer_windows.specs.Private.Near.{IsNear};
 ghost use Rattle.buffer_windows.specs.Private.Prices.{all_have_left, cost_at, lesser, owned};
 ghost use Rattle.buffer_windows.specs.Room.{buffer_room as room};
 ghost use Rattle.buffer_windows.specs.Windows.{ArePriced};
 ghost use Rattle.buffer_windows.specs.Values.{least_owned_cost as least_cost, least_owned_costs as least_costs, value_of_buffer_windows as value_of_windows, versions_left, buffer_worth as worth};
 
 use crate::constants::BYTE_PARTS;
-use crate::prices::{Prices, prices_of};
+use crate::near::Near;
+use crate::prices::{Prices, near_prices};
 use crate::rooms::room;
 use crate::windows::BufferWindow;
 use stream_constants::decoder::EB_UNIT_BYTES;
@@ -201,23 +203,32 @@ fn costs_of_units(
     ensures small { result ≤ length units.now * 2 ^ 80 }
 {
     let mut total = 0;
+    let mut near = Near::nowhere(owner.slot, windows);
     for (i, unit) in units.iter().enumerate() {
-        total += least_cost(unit, fixed[i], windows, owner);
+        near.go_to(owner.slot, windows, unit.due);
+        total += least_cost(unit, fixed[i], windows, &near, owner);
     }
     total
 }
 
-/// What a unit of a program costs at least.
-fn least_cost(unit: &Unit, fixed: Option<u8>, windows: &[BufferWindow], owner: Owner) -> u128
+/// What a unit of a program costs at least, where these of the windows are near.
+fn least_cost(
+    unit: &Unit,
+    fixed: Option<u8>,
+    windows: &[BufferWindow],
+    near: &Near,
+    owner: Owner,
+) -> u128
     requires slot { 1 ≤ owner.slot }
     requires program { owner.number < 8 }
     requires valid { IsValidUnit owner.slot unit.now }
     requires names { NamesVersion unit.now fixed }
     requires priced { ArePriced windows.now }
+    requires near { IsNear owner.slot windows.now near.now }
     ensures value { result ≡ least_cost owner.slot windows.now (record { program = owner.number; vbv = owner.vbv; unit = unit.now }) fixed }
     ensures small { result ≤ 2 ^ 80 }
 {
-    let prices = prices_of(owner.slot, windows, owner.number, unit.due);
+    let prices = near_prices(owner.slot, windows, near, owner.number, unit.due);
     match fixed {
         Some(k) => cost(&unit.versions[usize::from(k)], prices),
         None => least_of_versions(unit.versions.as_slice(), owner.vbv, prices),

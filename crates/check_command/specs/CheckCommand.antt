@@ -80,6 +80,7 @@ check_task job certificate = record {
   calls_for = CheckCallsFor job certificate;
   may_refuse = CheckMayRefuse;
   tells_work = TellsAccepted job certificate;
+  fits_none = λ told slots. ⊥;
   is_done = CheckDone job certificate;
   leaves = λ files after. after ≡ files;
   reads = CheckReads job certificate;

@@ -69,6 +69,7 @@ check_plan_task table certificate = record {
   calls_for = CheckPlanCallsFor table certificate;
   may_refuse = CheckPlanMayRefuse;
   tells_work = TellsPlanAccepted table certificate;
+  fits_none = λ told slots. ⊥;
   is_done = CheckPlanDone table certificate;
   leaves = λ files after. after ≡ files;
   reads = λ told name limit. CheckPlanReads table certificate name limit;

@@ -181,13 +181,13 @@ module _ (job : Job) (programs : List Program) (table : Table) (choice : List �
       let sizes : HasSizes row.units (choice_from table.programs program choice) =
       subst (λ (r : ProgramRow). HasSizes r.units (choice_from table.programs program choice)) (get_or_from_slice_get table.programs program row row there)
       (HasSizes-at_program table choice program row made.valid made.fits (slice_get_within table.programs program row there)) in
-      let own-sizes : HasSizes (unit_rows is.weight is.source.units is.own) (choice_from table.programs program choice) =
+      let own-sizes : HasSizes (unit_rows is.weight is.drift is.source.units is.own) (choice_from table.programs program choice) =
       subst (λ (r : ProgramRow). HasSizes r.units (choice_from table.programs program choice)) (sym is.row_is) sizes in
       subst
       (λ (r : ProgramRow). AllZip (IsVideoPiece (pieces_of (stream_items programs versions choice) (video_number table.programs program)))
       (video_queue program r (choice_from table.programs program choice)).packets (flat_map (λ items. items) (video_items is.source.units is.own (choice_from table.programs program choice))))
       is.row_is
-      (video-zip made.as_queued (pieces_of (stream_items programs versions choice) (video_number table.programs program)) is.weight 0 is.source.units is.own
+      (video-zip made.as_queued (pieces_of (stream_items programs versions choice) (video_number table.programs program)) is.weight is.drift 0 is.source.units is.own
       (choice_from table.programs program choice) own-sizes (video-versions-some is.source.video is.coarser None is.source.units is.own is.versions_are)
       (λ item k.
       ap (λ (n : ℕ). pieces_of (stream_items programs versions choice) (video_number table.programs program) n k) (let e : 0 + item ≡ item = omega arith in e)

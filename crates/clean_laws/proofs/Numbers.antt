@@ -131,7 +131,7 @@ stream-pid-at first (j ∷ js) [] versions program audio row out there few = abs
 stream-pid-at first (j ∷ js) (p ∷ ps) [] program audio row out there few = absurd (none-some row there)
 stream-pid-at first (j ∷ js) (p ∷ ps) (v ∷ vs) zero audio row out there few =
     let goes : CanGoOut p = All-head CanGoOut p ps out in
-    let same : program_row j.weight p v ≡ row = same_Some (program_row j.weight p v) row there in
+    let same : program_row j.weight j.drift p v ≡ row = same_Some (program_row j.weight j.drift p v) row there in
     let audios : length row.audios ≡ length p.audios = sym (ap (λ (r : ProgramRow). length r.audios) same) ∙ length-map p.audios audio_row in
     let within : audio < length p.map.streams.items = omega (arith, few, audios, goes.streams) in
     ap (slice_index (pids_of (with_output_pids first j.number p.map) ++ flat_map pids_of (output_maps (first + 1) js ps))) (begins audio)
@@ -145,9 +145,9 @@ stream-pid-at first (j ∷ js) (p ∷ ps) (v ∷ vs) (suc program) audio row out
     let rows : List ProgramRow = program_rows js ps vs in
     let own : List ℕ = pids_of (with_output_pids first j.number p.map) in
     let size : length own ≡ length p.map.streams.items = pids-count (video_pid first) p.map.streams.items in
-    let audios : length (program_row j.weight p v).audios ≡ length p.audios = length-map p.audios audio_row in
-    let number = number-behind (program_row j.weight p v) rows program in
-    let place : video_number (program_row j.weight p v ∷ rows) (suc program) + audio ≡ length own + (video_number rows program + audio) =
+    let audios : length (program_row j.weight j.drift p v).audios ≡ length p.audios = length-map p.audios audio_row in
+    let number = number-behind (program_row j.weight j.drift p v) rows program in
+    let place : video_number (program_row j.weight j.drift p v ∷ rows) (suc program) + audio ≡ length own + (video_number rows program + audio) =
     omega (arith, number, size, audios, goes.streams) in
     ap (slice_index (own ++ flat_map pids_of (output_maps (first + 1) js ps))) place
     ∙ get_or-append-add own (flat_map pids_of (output_maps (first + 1) js ps)) (video_number rows program + audio) 0

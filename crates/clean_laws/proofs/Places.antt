@@ -24,8 +24,9 @@ pub record ProgramAt (programs : List Program) (versions : List (List (List Unit
   pub source : Program
   pub own : List (List UnitVersion)
   pub weight : ℕ
+  pub drift : ℕ
   pub coarser : List ℕ
-  pub row_is : program_row weight source own ≡ row
+  pub row_is : program_row weight drift source own ≡ row
   pub versions_are : AreVideoVersions source.video coarser None source.units own
   pub sendable : IsSendable source
   pub video : slice_index_or (stream_items programs versions choice) (video_number rows program) [] ≡ video_items source.units own (choice_from rows program choice)
@@ -51,8 +52,9 @@ program-at (j ∷ js) (p ∷ ps) (v ∷ vs) choice zero row are sendable there =
   source = p;
   own = v;
   weight = j.weight;
+  drift = j.drift;
   coarser = j.coarser.items;
-  row_is = same_Some (program_row j.weight p v) row there;
+  row_is = same_Some (program_row j.weight j.drift p v) row there;
   versions_are = are.0;
   sendable = All-head IsSendable p ps sendable;
   video = refl;
@@ -62,7 +64,7 @@ program-at (j ∷ js) (p ∷ ps) (v ∷ vs) choice zero row are sendable there =
 }
 program-at (j ∷ js) (p ∷ ps) (v ∷ vs) choice (suc program) row are sendable there =
     let later : List ℕ = drop (length p.units) choice in
-    let first : ProgramRow = program_row j.weight p v in
+    let first : ProgramRow = program_row j.weight j.drift p v in
     let rows : List ProgramRow = program_rows js ps vs in
     let block : List (List (List Payload)) = video_items p.units v choice ∷ map audio_items p.audios in
     let rest : ProgramAt ps vs later rows program row = program-at js ps vs later program row are.1 (All-tail IsSendable p ps sendable) there in
@@ -70,11 +72,12 @@ program-at (j ∷ js) (p ∷ ps) (v ∷ vs) choice (suc program) row are sendabl
     let audios : length first.audios ≡ length p.audios = length-map p.audios audio_row in
     let number : video_number (first ∷ rows) (suc program) ≡ length block + video_number rows program = omega (arith, number-behind first rows program, size, audios) in
     let part : choice_from rows program later ≡ choice_from (first ∷ rows) (suc program) choice =
-    ap (λ (n : ℕ). choice_from rows program (drop n choice)) (sym (unit_rows-count j.weight p.video j.coarser.items None p.units v are.0)) ∙ choice-behind first rows program choice in
+    ap (λ (n : ℕ). choice_from rows program (drop n choice)) (sym (unit_rows-count j.weight j.drift p.video j.coarser.items None p.units v are.0)) ∙ choice-behind first rows program choice in
     record {
       source = rest.source;
       own = rest.own;
       weight = rest.weight;
+      drift = rest.drift;
       coarser = rest.coarser;
       row_is = rest.row_is;
       versions_are = rest.versions_are;

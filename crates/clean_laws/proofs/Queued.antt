@@ -16,6 +16,7 @@ use Rattle.version_table.specs.Choice.{version_at}
 use Rattle.slot_rule.specs.declared.queued_packet.QueuedPacket.{QueuedPacket}
 use Rattle.slot_rule.specs.Private.QueueItems.{HasSizes}
 use Rattle.slot_rule.specs.Queues.{payloads, unit_packets}
+use Rattle.program_reader.specs.Carry.{unit_weight}
 use Rattle.program_reader.specs.declared.program.AudioPiece.{AudioPiece}
 use Rattle.program_reader.specs.declared.program.UnitSource.{UnitSource}
 use Rattle.version_maker.specs.declared.version.UnitVersion.{UnitVersion}
@@ -150,24 +151,24 @@ chosen weight unit (v ∷ vs) zero all some =
 chosen weight unit (v ∷ vs) (suc index) all some =
     let rest = chosen weight unit vs index (All-tail HasBytes v vs all) some in record { size = rest.size; some = rest.some }
 
-pub video-zip : PiecesAreAsQueued → (f : ItemPieces) (weight from : ℕ) (units : List UnitSource) (versions : List (List UnitVersion)) (choice : List ℕ)
-    → HasSizes (unit_rows weight units versions) choice → HaveBytes versions
+pub video-zip : PiecesAreAsQueued → (f : ItemPieces) (weight drift from : ℕ) (units : List UnitSource) (versions : List (List UnitVersion)) (choice : List ℕ)
+    → HasSizes (unit_rows weight drift units versions) choice → HaveBytes versions
     → ((item k : ℕ) → f (from + item) k ≡ slice_index_or (slice_index_or (video_items units versions choice) item []) k no_piece)
-    → AllZip (IsVideoPiece f) (flat_map (λ (item, (unit, k)). unit_packets item unit.due (version_at unit k).bytes) (enumerate_from from (zip (unit_rows weight units versions) choice)))
+    → AllZip (IsVideoPiece f) (flat_map (λ (item, (unit, k)). unit_packets item unit.due (version_at unit k).bytes) (enumerate_from from (zip (unit_rows weight drift units versions) choice)))
     (flat_map (λ pieces. pieces) (video_items units versions choice))
-video-zip queued f weight from [] versions choice sizes have found = tt
-video-zip queued f weight from (u ∷ us) [] choice sizes have found = tt
-video-zip queued f weight from (u ∷ us) (v ∷ vs) [] sizes have found = absurd sizes
-video-zip queued f weight from (u ∷ us) (v ∷ vs) (c ∷ cs) sizes have found =
-    let is : IsChosen u v (version_at (unit_row weight u v) c).bytes c = chosen weight u v c have.0 sizes.0 in
-    let own : AllZip (IsVideoPiece f) (unit_packets from u.due (version_at (unit_row weight u v) c).bytes) (pes_pieces (pes_packet u (chosen_bytes v c))) =
+video-zip queued f weight drift from [] versions choice sizes have found = tt
+video-zip queued f weight drift from (u ∷ us) [] choice sizes have found = tt
+video-zip queued f weight drift from (u ∷ us) (v ∷ vs) [] sizes have found = absurd sizes
+video-zip queued f weight drift from (u ∷ us) (v ∷ vs) (c ∷ cs) sizes have found =
+    let is : IsChosen u v (version_at (unit_row (unit_weight weight drift u us) u v) c).bytes c = chosen (unit_weight weight drift u us) u v c have.0 sizes.0 in
+    let own : AllZip (IsVideoPiece f) (unit_packets from u.due (version_at (unit_row (unit_weight weight drift u us) u v) c).bytes) (pes_pieces (pes_packet u (chosen_bytes v c))) =
     subst (λ (n : ℕ). AllZip (IsVideoPiece f) (unit_packets from u.due n) (pes_pieces (pes_packet u (chosen_bytes v c)))) (sym is.size)
     (unit-packets-zip queued f from u.due u.times (chosen_bytes v c) is.some
     (λ k. ap (λ (n : ℕ). f n k) (let e : from ≡ from + 0 = omega arith in e) ∙ found 0 k)) in
-    zip-append (IsVideoPiece f) (unit_packets from u.due (version_at (unit_row weight u v) c).bytes)
-    (flat_map (λ (item, (unit, k)). unit_packets item unit.due (version_at unit k).bytes) (enumerate_from (from + 1) (zip (unit_rows weight us vs) cs)))
+    zip-append (IsVideoPiece f) (unit_packets from u.due (version_at (unit_row (unit_weight weight drift u us) u v) c).bytes)
+    (flat_map (λ (item, (unit, k)). unit_packets item unit.due (version_at unit k).bytes) (enumerate_from (from + 1) (zip (unit_rows weight drift us vs) cs)))
     (pes_pieces (pes_packet u (chosen_bytes v c))) (flat_map (λ pieces. pieces) (video_items us vs cs)) own
-    (video-zip queued f weight (from + 1) us vs cs sizes.2 have.1
+    (video-zip queued f weight drift (from + 1) us vs cs sizes.2 have.1
     (λ item k. ap (λ (n : ℕ). f n k) (let e : (from + 1) + item ≡ from + suc item = omega arith in e) ∙ found (suc item) k))
 
 -- ---- an audio stream

@@ -6,14 +6,13 @@ ghost use Rattle.remux_core.specs.Outcome.{Outcome};
 ghost use Rattle.command_words.specs.Outside.{shelf_facts, sink_facts};
 ghost use Rattle.command_words.specs.Status.{code_of};
 
-use crate::sentence::print_sentence;
 use remux_core::run;
 use shelf_io::{Shelf, Sink};
+use std::alloc::Global;
 
-/// Runs a command over any shelf and sink. The exit status is the code of the status that the run ends with; where that
-/// isn't 0, a sentence on standard error says why, and whether it could be printed changes nothing.
-pub fn exit_status<R: Eprint + AllocGlobal, K: Shelf, O: Sink>(
-    rt: &R,
+/// Runs a command over any shelf and sink. The exit status is the code of the status that the run ends with.
+pub fn exit_status<K: Shelf, O: Sink>(
+    alloc: Global,
     words: &[String],
     shelf: &mut K,
     out: &mut O,
@@ -27,7 +26,6 @@ pub fn exit_status<R: Eprint + AllocGlobal, K: Shelf, O: Sink>(
     ensures usage { result ≡ 2 → IsCommand (map string_bytes words.now) → ⊥ }
     ensures no_command { (IsCommand (map string_bytes words.now) → ⊥) → (result ≡ 2) ⊎ ((result ≡ 7) ⊎ (result ≡ 10)) }
 {
-    let status = run(rt.alloc(), words, shelf, out);
-    let _ = print_sentence(rt, words, &status);
+    let status = run(alloc, words, shelf, out);
     status.code()
 }

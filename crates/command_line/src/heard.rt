@@ -1,28 +1,25 @@
 ghost use Rattle.std.specs.Prelude.{◌≤◌, length};
 
-use arrayvec::ArrayVec;
 use shelf_io::{Fault, Sink};
+use std::alloc::Global;
 
-/// How many bytes of a line are kept: more than the longest verdict has.
-const HEARD_BYTES: usize = 192;
-
-/// A sink that hands all on to another one, and keeps the front of what that took.
+/// A sink that hands all on to another one, and keeps what that took.
 #[derive(Drop)]
 pub(crate) struct HeardSink<O> {
     out: O,
-    line: ArrayVec<u8, HEARD_BYTES>,
+    line: Vec<u8>,
 }
 
 impl<O: Sink> HeardSink<O> {
     /// Before anything was written.
-    pub(crate) fn new(out: O) -> HeardSink<O> {
+    pub(crate) fn new(alloc: Global, out: O) -> HeardSink<O> {
         HeardSink {
             out,
-            line: ArrayVec::new(),
+            line: Vec::new(alloc),
         }
     }
 
-    /// The front of what was written.
+    /// What was written; with a gap where memory was wanting, so that it is no line.
     pub(crate) fn line(&self) -> &[u8] {
         self.line.as_slice()
     }
@@ -52,11 +49,9 @@ impl<O: Sink> Sink for HeardSink<O> {
     }
 }
 
-/// Keeps the first bytes of a piece, as many as there is room for.
-fn hear(line: &mut ArrayVec<u8, HEARD_BYTES>, piece: &[u8], taken: usize)
+/// Keeps the first bytes of a piece, where memory is found for them.
+fn hear(line: &mut Vec<u8>, piece: &[u8], taken: usize)
     requires { taken ≤ length piece.now }
 {
-    for byte in &piece[..taken] {
-        let _ = line.try_push(*byte);
-    }
+    let _ = line.extend_from_slice(&piece[..taken]);
 }

@@ -10,7 +10,7 @@ use Rattle.shelf_io.specs.Files.{Files, Lacks}
 use Rattle.shelf_io.proofs.Counted.{rose_later}
 use Rattle.command_words.specs.declared.status.Status.{Status}
 use Rattle.command_words.specs.declared.status.Status.TheVariants as statuses
-use Rattle.command_words.specs.Answer.{Answer, HasCause, AnswerHasCause, FailsAt, Refuses}
+use Rattle.command_words.specs.Answer.{Answer, HasCause, AnswerHasCause, FailsAt, Refuses, TellsNoFit}
 use Rattle.command_words.specs.Outside.{CountsGrow, ShelfFacts}
 use Rattle.command_words.specs.Report.{cert_report, miss_report, refusal_report}
 use Rattle.command_words.specs.Task.{AsksOnly, Task}
@@ -48,6 +48,7 @@ cause_later task old middle new statuses.Missing line same before after cause =
     ))
     (rose_later _ _ _ before.absences_grow after.absences_grow) cause
 cause_later task old middle new statuses.OutOfMemory line same before after cause = cause
+cause_later task old middle new statuses.NoFit line same before after cause = subst (λ (told : Option Files). TellsNoFit task told line) same cause
 
 -- of answers
 pub answer_later : (task : Task) (old middle new : ShelfFacts) (answer : Option Answer) → middle.files ≡ old.files

@@ -1,10 +1,10 @@
--- Words that are those of `gen` and `probe`, and words that aren't.
+-- Words that are those of commands, and words that aren't.
 use Rattle.std.proofs.Common.{◌≡◌, ◌<◌, ◌^◌, ℕ, true, List, [], ◌∷◌, length, get_or, decimal, codes, refl, sym, ap, ◌∙◌, lit<, lit≤, arith}
 use Rattle.std.specs.Str.{all_ascii_digits}
 use Rattle.std.specs.Str.Parse.{digits_value}
 use Rattle.std.proofs.lemmas.Fmt.{decimal_digit, decimal_is_IsNumeral, decimal-digits_value}
 use Rattle.std.proofs.lemmas.Str.Parse.{numerals_by_value, tells_all_ascii_digits}
-use Rattle.command_words.specs.Command.{Plan, Gen, Run, Check, Probe, CheckPlan, Impossible, IsCommand, IsGenCommand, IsProbeCommand}
+use Rattle.command_words.specs.Command.{Plan, Gen, Run, Check, Probe, CheckPlan, Impossible, Fit, IsCommand, IsGenCommand, IsProbeCommand}
 use Rattle.command_words.proofs.Decimals.{decimal_begins_plainly, number_within, pictures_within}
 use Rattle.command_words.proofs.OneCommand.{other_length, other_verb}
 
@@ -44,6 +44,7 @@ are_of_gen seed pictures out (Run job stream certificate, said) = absurd (other_
 are_of_gen seed pictures out (Check job certificate, said) = let are = said.words_are in cc
 are_of_gen seed pictures out (CheckPlan table certificate, said) = let are = said.words_are in cc
 are_of_gen seed pictures out (Impossible table, said) = let are = said.words_are in cc
+are_of_gen seed pictures out (Fit job list, said) = let are = said.words_are in cc
 are_of_gen seed pictures out (Probe file number table, said) = absurd (other_verb 103 112 refl said.words_are refl refl (λ same. omega (arith, same)))
 
 -- they have the decimal of a number below 2^64 in the second
@@ -112,6 +113,7 @@ are_of_probe file number table (Run job stream certificate, said) = absurd (othe
 are_of_probe file number table (Check job certificate, said) = let are = said.words_are in cc
 are_of_probe file number table (CheckPlan text certificate, said) = let are = said.words_are in cc
 are_of_probe file number table (Impossible text, said) = let are = said.words_are in cc
+are_of_probe file number table (Fit job list, said) = let are = said.words_are in cc
 are_of_probe file number table (Probe name program made, said) = (name, program, made, said)
 
 -- program 0, which names the network PID
@@ -168,6 +170,7 @@ one_file_for_both (Gen seed pictures out, said) = let are = said.words_are in cc
 one_file_for_both (Run job out certificate, said) = let are = said.words_are in cc
 one_file_for_both (Probe file number table, said) = let are = said.words_are in cc
 one_file_for_both (Impossible table, said) = let are = said.words_are in cc
+one_file_for_both (Fit job list, said) = absurd (other_verb 99 102 refl said.words_are refl refl (λ same. omega (arith, same)))
 one_file_for_both (Check job certificate, said) = absurd (other_length 10 5 refl said.words_are refl refl (λ same. omega (arith, same)))
 one_file_for_both (CheckPlan table certificate, said) =
     let are = said.words_are in
@@ -190,3 +193,28 @@ no_name (Run job out certificate, said) = let are = said.words_are in cc
 no_name (Check job certificate, said) = let are = said.words_are in cc
 no_name (Probe file number table, said) = let are = said.words_are in cc
 no_name (CheckPlan table certificate, said) = let are = said.words_are in cc
+no_name (Fit job list, said) = let are = said.words_are in cc
+
+-- ---- fit
+
+-- a job and a list
+job_and_list : IsCommand (codes "fit" ∷ codes "a" ∷ codes "b" ∷ [])
+job_and_list = (
+  Fit (codes "a") (codes "b"),
+  record { words_are = refl; job_named = λ e. let none = e in cc; list_named = λ e. let none = e in cc; apart = λ e. let same : 97 ≡ 98 = ap (λ (name : List ℕ). get_or name 0 0) e in omega (arith, same) },
+)
+
+-- one file for both
+one_file_for_job_and_list : IsCommand (codes "fit" ∷ codes "a" ∷ codes "a" ∷ []) → ⊥
+one_file_for_job_and_list (Plan table certificate, said) = absurd (other_verb 102 112 refl said.words_are refl refl (λ same. omega (arith, same)))
+one_file_for_job_and_list (Gen seed pictures out, said) = let are = said.words_are in cc
+one_file_for_job_and_list (Run job out certificate, said) = let are = said.words_are in cc
+one_file_for_job_and_list (Probe file number table, said) = let are = said.words_are in cc
+one_file_for_job_and_list (Impossible table, said) = let are = said.words_are in cc
+one_file_for_job_and_list (Check job certificate, said) = absurd (other_verb 102 99 refl said.words_are refl refl (λ same. omega (arith, same)))
+one_file_for_job_and_list (CheckPlan table certificate, said) = absurd (other_verb 102 99 refl said.words_are refl refl (λ same. omega (arith, same)))
+one_file_for_job_and_list (Fit job list, said) =
+    let are = said.words_are in
+    let first : job ≡ codes "a" = cc in
+    let second : list ≡ codes "a" = cc in
+    said.apart (first ∙ sym second)

@@ -1,7 +1,7 @@
 -- Words say one command.
 use Rattle.std.proofs.Common.{◌≡◌, ℕ, List, [], ◌∷◌, Option, Some, None, length, decimal, refl, sym, ap, ◌∙◌, arith}
 use Rattle.std.proofs.lemmas.Fmt.{decimal_injective}
-use Rattle.command_words.specs.Command.{Command, Plan, Gen, Run, Check, Probe, CheckPlan, Impossible, IsSaid}
+use Rattle.command_words.specs.Command.{Command, Plan, Gen, Run, Check, Probe, CheckPlan, Impossible, Fit, IsSaid}
 
 -- the first letter of the verb
 abbrev pub initial : List (List ℕ) → ℕ
@@ -97,6 +97,21 @@ one_command words (Some (Impossible table)) (Some (Probe file number made)) a b 
 one_command words (Some (Probe file number made)) (Some (Impossible table)) a b = absurd (other_length 5 10 a.words_are b.words_are refl refl (λ same. omega (arith, same)))
 one_command words (Some (Impossible table)) (Some (CheckPlan text cert)) a b = absurd (other_verb 105 99 a.words_are b.words_are refl refl (λ same. omega (arith, same)))
 one_command words (Some (CheckPlan text cert)) (Some (Impossible table)) a b = absurd (other_verb 99 105 a.words_are b.words_are refl refl (λ same. omega (arith, same)))
+one_command words (Some (Fit job list)) (Some (Fit other name)) a b = let x = a.words_are in let y = b.words_are in cc
+one_command words (Some (Fit job list)) (Some (Plan table certificate)) a b = absurd (other_verb 102 112 a.words_are b.words_are refl refl (λ same. omega (arith, same)))
+one_command words (Some (Plan table certificate)) (Some (Fit job list)) a b = absurd (other_verb 112 102 a.words_are b.words_are refl refl (λ same. omega (arith, same)))
+one_command words (Some (Fit job list)) (Some (Gen seed pictures out)) a b = absurd (other_verb 102 103 a.words_are b.words_are refl refl (λ same. omega (arith, same)))
+one_command words (Some (Gen seed pictures out)) (Some (Fit job list)) a b = absurd (other_verb 103 102 a.words_are b.words_are refl refl (λ same. omega (arith, same)))
+one_command words (Some (Fit job list)) (Some (Run work out certificate)) a b = absurd (other_verb 102 114 a.words_are b.words_are refl refl (λ same. omega (arith, same)))
+one_command words (Some (Run work out certificate)) (Some (Fit job list)) a b = absurd (other_verb 114 102 a.words_are b.words_are refl refl (λ same. omega (arith, same)))
+one_command words (Some (Fit job list)) (Some (Check work certificate)) a b = absurd (other_verb 102 99 a.words_are b.words_are refl refl (λ same. omega (arith, same)))
+one_command words (Some (Check work certificate)) (Some (Fit job list)) a b = absurd (other_verb 99 102 a.words_are b.words_are refl refl (λ same. omega (arith, same)))
+one_command words (Some (Fit job list)) (Some (Probe file number made)) a b = absurd (other_verb 102 112 a.words_are b.words_are refl refl (λ same. omega (arith, same)))
+one_command words (Some (Probe file number made)) (Some (Fit job list)) a b = absurd (other_verb 112 102 a.words_are b.words_are refl refl (λ same. omega (arith, same)))
+one_command words (Some (Fit job list)) (Some (CheckPlan text cert)) a b = absurd (other_verb 102 99 a.words_are b.words_are refl refl (λ same. omega (arith, same)))
+one_command words (Some (CheckPlan text cert)) (Some (Fit job list)) a b = absurd (other_verb 99 102 a.words_are b.words_are refl refl (λ same. omega (arith, same)))
+one_command words (Some (Fit job list)) (Some (Impossible table)) a b = absurd (other_verb 102 105 a.words_are b.words_are refl refl (λ same. omega (arith, same)))
+one_command words (Some (Impossible table)) (Some (Fit job list)) a b = absurd (other_verb 105 102 a.words_are b.words_are refl refl (λ same. omega (arith, same)))
 one_command words (Some a) None said none = absurd (none (a, said))
 one_command words None (Some b) none said = absurd (none (b, said))
 one_command words None None a b = refl

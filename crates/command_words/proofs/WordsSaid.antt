@@ -1,6 +1,6 @@
 -- Words that are those of no command.
 use Rattle.std.proofs.Common.{◌≡◌, ℕ, List, [], ◌∷◌, subst}
-use Rattle.command_words.specs.Command.{Plan, Gen, Run, Check, Probe, CheckPlan, Impossible, IsCommand, IsPlanCommand, IsGenCommand, IsRunCommand, IsCheckCommand, IsCheckPlanCommand, IsImpossibleCommand, IsProbeCommand}
+use Rattle.command_words.specs.Command.{Plan, Gen, Run, Check, Probe, CheckPlan, Impossible, Fit, IsCommand, IsPlanCommand, IsGenCommand, IsRunCommand, IsCheckCommand, IsCheckPlanCommand, IsFitCommand, IsImpossibleCommand, IsProbeCommand}
 
 -- a verb and a word that aren't `impossible`
 pub no_one : (verb name : List ℕ) → (IsImpossibleCommand (verb ∷ name ∷ []) name → ⊥) → IsCommand (verb ∷ name ∷ []) → ⊥
@@ -14,33 +14,40 @@ no_one verb name no_impossible (Run job out certificate, said) = let are = said.
 no_one verb name no_impossible (Check job certificate, said) = let are = said.words_are in cc
 no_one verb name no_impossible (Probe file number table, said) = let are = said.words_are in cc
 no_one verb name no_impossible (CheckPlan table certificate, said) = let are = said.words_are in cc
+no_one verb name no_impossible (Fit job list, said) = let are = said.words_are in cc
 
--- a verb and two words that are none of `plan`, `check` and `check-plan`
+-- a verb and two words that are none of `plan`, `check`, `check-plan` and `fit`
 pub no_pair : (verb first second : List ℕ) → (IsPlanCommand (verb ∷ first ∷ second ∷ []) first second → ⊥)
     → (IsCheckCommand (verb ∷ first ∷ second ∷ []) first second → ⊥) → (IsCheckPlanCommand (verb ∷ first ∷ second ∷ []) first second → ⊥)
-    → IsCommand (verb ∷ first ∷ second ∷ []) → ⊥
-no_pair verb first second no_plan no_check no_check_plan (Plan table certificate, said) =
+    → (IsFitCommand (verb ∷ first ∷ second ∷ []) first second → ⊥) → IsCommand (verb ∷ first ∷ second ∷ []) → ⊥
+no_pair verb first second no_plan no_check no_check_plan no_fit (Plan table certificate, said) =
     let are = said.words_are in
     let a : table ≡ first = cc in
     let b : certificate ≡ second = cc in
     let words : List (List ℕ) = verb ∷ first ∷ second ∷ [] in
     no_plan (subst (λ (x : List ℕ). IsPlanCommand words x second) a (subst (λ (x : List ℕ). IsPlanCommand words table x) b said))
-no_pair verb first second no_plan no_check no_check_plan (Gen seed pictures out, said) = let are = said.words_are in cc
-no_pair verb first second no_plan no_check no_check_plan (Run job out certificate, said) = let are = said.words_are in cc
-no_pair verb first second no_plan no_check no_check_plan (Probe file number table, said) = let are = said.words_are in cc
-no_pair verb first second no_plan no_check no_check_plan (Impossible table, said) = let are = said.words_are in cc
-no_pair verb first second no_plan no_check no_check_plan (Check job certificate, said) =
+no_pair verb first second no_plan no_check no_check_plan no_fit (Gen seed pictures out, said) = let are = said.words_are in cc
+no_pair verb first second no_plan no_check no_check_plan no_fit (Run job out certificate, said) = let are = said.words_are in cc
+no_pair verb first second no_plan no_check no_check_plan no_fit (Probe file number table, said) = let are = said.words_are in cc
+no_pair verb first second no_plan no_check no_check_plan no_fit (Impossible table, said) = let are = said.words_are in cc
+no_pair verb first second no_plan no_check no_check_plan no_fit (Check job certificate, said) =
     let are = said.words_are in
     let a : job ≡ first = cc in
     let b : certificate ≡ second = cc in
     let words : List (List ℕ) = verb ∷ first ∷ second ∷ [] in
     no_check (subst (λ (x : List ℕ). IsCheckCommand words x second) a (subst (λ (x : List ℕ). IsCheckCommand words job x) b said))
-no_pair verb first second no_plan no_check no_check_plan (CheckPlan table certificate, said) =
+no_pair verb first second no_plan no_check no_check_plan no_fit (CheckPlan table certificate, said) =
     let are = said.words_are in
     let a : table ≡ first = cc in
     let b : certificate ≡ second = cc in
     let words : List (List ℕ) = verb ∷ first ∷ second ∷ [] in
     no_check_plan (subst (λ (x : List ℕ). IsCheckPlanCommand words x second) a (subst (λ (x : List ℕ). IsCheckPlanCommand words table x) b said))
+no_pair verb first second no_plan no_check no_check_plan no_fit (Fit job list, said) =
+    let are = said.words_are in
+    let a : job ≡ first = cc in
+    let b : list ≡ second = cc in
+    let words : List (List ℕ) = verb ∷ first ∷ second ∷ [] in
+    no_fit (subst (λ (x : List ℕ). IsFitCommand words x second) a (subst (λ (x : List ℕ). IsFitCommand words job x) b said))
 
 -- a verb and three words that are none of `run`, `gen` and `probe`
 pub no_three : (verb first second third : List ℕ) → (IsRunCommand (verb ∷ first ∷ second ∷ third ∷ []) first second third → ⊥)
@@ -61,3 +68,4 @@ no_three verb first second third no_run no_gen no_probe (Check job certificate, 
 no_three verb first second third no_run no_gen no_probe (CheckPlan table certificate, said) = let are = said.words_are in cc
 no_three verb first second third no_run no_gen no_probe (Probe file number table, said) = no_probe file number table said
 no_three verb first second third no_run no_gen no_probe (Impossible table, said) = let are = said.words_are in cc
+no_three verb first second third no_run no_gen no_probe (Fit job list, said) = let are = said.words_are in cc

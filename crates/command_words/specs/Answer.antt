@@ -4,9 +4,10 @@ use Rattle.shelf_io.specs.Counts.{Rose}
 use Rattle.shelf_io.specs.Files.{Files, Lacks}
 use Rattle.job_report.specs.Report.{report_line}
 use Rattle.job_report.specs.declared.report.Report.TheVariants as reports
+use Rattle.job_report.specs.declared.report.SlotVerdict.{SlotVerdict}
 use Rattle.run_report.specs.Report.{source_report}
 use Rattle.command_words.specs.declared.status.Status.{Status}
-use Rattle.command_words.specs.declared.status.Status.TheVariants.{Ok, Usage, JobRefused, SourceRefused, Unschedulable, ReadFault, WriteFault, CertRefused, Missing, OutOfMemory}
+use Rattle.command_words.specs.declared.status.Status.TheVariants.{Ok, Usage, JobRefused, SourceRefused, Unschedulable, ReadFault, WriteFault, CertRefused, Missing, OutOfMemory, NoFit}
 use Rattle.command_words.specs.Outside.{ShelfFacts}
 use Rattle.command_words.specs.Report.{cert_report, refusal_report, miss_report}
 use Rattle.command_words.specs.Task.{Task}
@@ -47,6 +48,10 @@ pub record Refuses (task : Task) (told : Option Files) (status : Status) (report
   pub says : line ≡ reported
   pub called : task.calls_for told status
 
+-- the line prints what is said of each slot, of which none fits
+abbrev pub TellsNoFit : Task → Option Files → (line : List ℕ) → Type 0
+TellsNoFit task told line = (slots : List SlotVerdict) × task.fits_none told slots × (line ≡ report_line (reports.NoFit slots))
+
 -- Why a command ends with this status and line, whether the shelf tells its files or not: work that was done is that of the files, a refusal is
 -- called for, a fault of the outside comes only where a count of its own rose, and a name is missing only where told files lack it.
 abbrev pub HasCause : Task → (old new : ShelfFacts) → Status → (line : List ℕ) → Type 0
@@ -64,6 +69,7 @@ HasCause task old new Missing line =
     FailsAt (λ name. IsReadFile task old.files name × Lacks old.files name) (Rose old.counts.absences new.counts.absences)
     (λ name. report_line (reports.Missing name)) line new
 HasCause task old new OutOfMemory line = ⊥
+HasCause task old new NoFit line = TellsNoFit task old.files line
 
 -- an answer has its cause; to end without one for want of memory needs none
 abbrev pub AnswerHasCause : Task → (old new : ShelfFacts) → Option Answer → Type 0

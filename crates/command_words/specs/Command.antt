@@ -19,6 +19,8 @@ pub data Command : Type 0 where
   CheckPlan : (table certificate : List ℕ) → Command
   -- whether it is shown of a table that no choice is scheduled
   Impossible : (table : List ℕ) → Command
+  -- in which slots of a list the programs of a job fit
+  Fit : (job list : List ℕ) → Command
 
 -- the words `plan TABLE CERT`: two different file names that aren't empty
 pub record IsPlanCommand (words : List (List ℕ)) (table certificate : List ℕ) : Type 0 where
@@ -75,6 +77,13 @@ pub record IsImpossibleCommand (words : List (List ℕ)) (table : List ℕ) : Ty
   pub words_are : words ≡ codes "impossible" ∷ table ∷ []
   pub table_named : table ≢ []
 
+-- the words `fit JOB LIST`: two different file names that aren't empty
+pub record IsFitCommand (words : List (List ℕ)) (job list : List ℕ) : Type 0 where
+  pub words_are : words ≡ codes "fit" ∷ job ∷ list ∷ []
+  pub job_named : job ≢ []
+  pub list_named : list ≢ []
+  pub apart : job ≢ list
+
 -- the words of a command
 abbrev pub IsWordsOf : Command → List (List ℕ) → Type 0
 IsWordsOf (Plan table certificate) words = IsPlanCommand words table certificate
@@ -84,6 +93,7 @@ IsWordsOf (Check job certificate) words = IsCheckCommand words job certificate
 IsWordsOf (Probe file number table) words = IsProbeCommand words file number table
 IsWordsOf (CheckPlan table certificate) words = IsCheckPlanCommand words table certificate
 IsWordsOf (Impossible table) words = IsImpossibleCommand words table
+IsWordsOf (Fit job list) words = IsFitCommand words job list
 
 -- the words are those of a command
 abbrev pub IsCommand : List (List ℕ) → Type 0

@@ -1,5 +1,6 @@
 pub mod Answer
 pub mod Command
+pub mod Decimal
 pub mod Ended
 pub mod Held
 pub mod Outside

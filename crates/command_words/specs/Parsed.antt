@@ -9,7 +9,8 @@ use Rattle.command_words.specs.declared.command.CheckFiles.{CheckFiles}
 use Rattle.command_words.specs.declared.command.ProbeWords.{ProbeWords}
 use Rattle.command_words.specs.declared.command.CheckPlanFiles.{CheckPlanFiles}
 use Rattle.command_words.specs.declared.command.ImpossibleFiles.{ImpossibleFiles}
-use Rattle.command_words.specs.Command.{Command, Plan, Gen, Run, Check, Probe, CheckPlan, Impossible}
+use Rattle.command_words.specs.declared.command.FitFiles.{FitFiles}
+use Rattle.command_words.specs.Command.{Command, Plan, Gen, Run, Check, Probe, CheckPlan, Impossible, Fit}
 
 -- the command of `plan` with these names
 abbrev pub plan_of : PlanFiles → Option Command
@@ -39,6 +40,10 @@ check_plan_of files = Some (CheckPlan files.table.now files.certificate.now)
 abbrev pub impossible_of : ImpossibleFiles → Option Command
 impossible_of files = Some (Impossible files.table.now)
 
+-- the command of `fit` with these names
+abbrev pub fit_of : FitFiles → Option Command
+fit_of files = Some (Fit files.job.now files.list.now)
+
 -- the command that was parsed
 abbrev pub command_of : Option Parsed → Option Command
 command_of (Some (parsed.Plan files)) = plan_of files
@@ -48,4 +53,5 @@ command_of (Some (parsed.Check files)) = check_of files
 command_of (Some (parsed.Probe words)) = probe_of words
 command_of (Some (parsed.CheckPlan files)) = check_plan_of files
 command_of (Some (parsed.Impossible files)) = impossible_of files
+command_of (Some (parsed.Fit files)) = fit_of files
 command_of None = None

@@ -6,15 +6,16 @@ use Rattle.run_report.specs.Report.{cert_fault_report}
 use Rattle.command_words.specs.declared.status.CertRefusal.{CertRefusal}
 use Rattle.command_words.specs.declared.status.CertRefusal.TheVariants.{Syntax, Fault}
 use Rattle.command_words.specs.declared.status.JobRefusal.{JobRefusal}
-use Rattle.command_words.specs.declared.status.JobRefusal.TheVariants.{TableSyntax, TableLimit, JobSyntax, JobField, JobLimit}
+use Rattle.command_words.specs.declared.status.JobRefusal.TheVariants.{TableSyntax, TableLimit, JobSyntax, JobField, JobLimit, ListSyntax}
 
--- a refused text: the first line that no table has, that it is no document, or the name of the first field or limit that is broken
+-- a refused text: the first line that no table has or no list, that it is no document, or the name of the first field or limit that is broken
 abbrev pub refusal_report : JobRefusal → Report
 refusal_report (TableSyntax n) = reports.TableSyntax n
 refusal_report (TableLimit name) = reports.TableLimit name
 refusal_report JobSyntax = reports.JobSyntax
 refusal_report (JobField name) = reports.JobField name
 refusal_report (JobLimit name) = reports.JobLimit name
+refusal_report (ListSyntax n) = reports.ListSyntax n
 
 -- a refused certificate: the first byte that no certificate has there, or the first fault
 abbrev pub cert_report : CertRefusal → Report

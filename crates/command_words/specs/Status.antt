@@ -4,9 +4,9 @@ use Rattle.serde_json.specs.Find.{get}
 use Rattle.job_report.specs.Report.{json_number, report_object, report_line}
 use Rattle.job_report.specs.declared.report.Report.{Report}
 use Rattle.command_words.specs.declared.status.Status.{Status}
-use Rattle.command_words.specs.declared.status.Status.TheVariants.{Ok, Usage, JobRefused, SourceRefused, Unschedulable, ReadFault, WriteFault, CertRefused, Missing, OutOfMemory}
+use Rattle.command_words.specs.declared.status.Status.TheVariants.{Ok, Usage, JobRefused, SourceRefused, Unschedulable, ReadFault, WriteFault, CertRefused, Missing, OutOfMemory, NoFit}
 use Rattle.command_words.specs.declared.status.JobRefusal.{JobRefusal}
-use Rattle.command_words.specs.declared.status.JobRefusal.TheVariants.{TableSyntax, TableLimit, JobSyntax, JobField, JobLimit}
+use Rattle.command_words.specs.declared.status.JobRefusal.TheVariants.{TableSyntax, TableLimit, JobSyntax, JobField, JobLimit, ListSyntax}
 
 -- the exit status
 abbrev pub code_of : Status → ℕ
@@ -20,6 +20,7 @@ code_of WriteFault = 7
 code_of (CertRefused refusal) = 8
 code_of Missing = 9
 code_of OutOfMemory = 10
+code_of NoFit = 12
 
 -- two refusals of a text are the same, names compared by their bytes
 abbrev pub IsSameRefusal : JobRefusal → JobRefusal → Type 0
@@ -28,6 +29,7 @@ IsSameRefusal (TableLimit name) (TableLimit other) = name.bytes ≡ other.bytes
 IsSameRefusal JobSyntax JobSyntax = Unit {0}
 IsSameRefusal (JobField name) (JobField other) = name.bytes ≡ other.bytes
 IsSameRefusal (JobLimit name) (JobLimit other) = name.bytes ≡ other.bytes
+IsSameRefusal (ListSyntax n) (ListSyntax m) = n ≡ m
 IsSameRefusal first second = ⊥
 
 -- two statuses are the same, names compared by their bytes

@@ -1,6 +1,7 @@
 -- What a command has to do, as one value, which each command fills; and which files it may ask for and change.
 use Rattle.std.specs.Prelude.{◌≡◌, ◌≤◌, ◌+◌, ℕ, List, Option, max}
 use Rattle.std.specs.FinMap.{get}
+use Rattle.job_report.specs.declared.report.SlotVerdict.{SlotVerdict}
 use Rattle.shelf_io.specs.Files.{Files}
 use Rattle.command_words.specs.declared.status.Status.{Status}
 use Rattle.command_words.specs.declared.status.Status.TheVariants.{Usage}
@@ -13,6 +14,8 @@ pub record Task : Type 1 where
   pub may_refuse : Status → Type 0
   -- the line prints the work that the files call for
   pub tells_work : (told : Option Files) → (line : List ℕ) → Type 0
+  -- the files call for this to be said of each slot that was asked for, none of which fits
+  pub fits_none : (told : Option Files) → List SlotVerdict → Type 0
   -- the work was done, with this line and these files after it
   pub is_done : (files : Files) → (line : List ℕ) → (after : Files) → Type 0
   -- the files that the command leaves where it is broken off
@@ -33,6 +36,7 @@ no_task = record {
   calls_for = λ told status. IsUsage status;
   may_refuse = λ status. ⊥;
   tells_work = λ told line. ⊥;
+  fits_none = λ told slots. ⊥;
   is_done = λ files line after. ⊥;
   leaves = λ files after. after ≡ files;
   reads = λ told name limit. ⊥;

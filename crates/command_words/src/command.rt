@@ -1,8 +1,9 @@
 ghost use Rattle.std.specs.Prelude.{◌≡◌, ◌≢◌, ◌≤◌, ◌<◌, ◌⊎◌, ◌↔◌, ◌∷◌, [], map, length, get_or, IsTrue};
 ghost use Rattle.std.specs.String.{string_bytes};
-ghost use Rattle.command_words.specs.Command.{IsCheckCommand, IsCheckPlanCommand, IsImpossibleCommand, IsPlanCommand, IsRunCommand, IsSaid};
+ghost use Rattle.command_words.specs.Command.{IsCheckCommand, IsCheckPlanCommand, IsFitCommand, IsImpossibleCommand, IsPlanCommand, IsRunCommand, IsSaid};
+ghost use Rattle.command_words.specs.Decimal.{IsDecimal};
 ghost use Rattle.command_words.specs.Parsed.{command_of};
-ghost use Rattle.command_words.specs.Private.Parsed.{IsDecimal, IsGenSaid, IsProbeSaid};
+ghost use Rattle.command_words.specs.Private.Parsed.{IsGenSaid, IsProbeSaid};
 
 use job_report::limits::NUMBER_MOST;
 use program_maker::PICTURES_MOST;
@@ -17,6 +18,7 @@ pub enum Parsed<'a> {
     Probe(ProbeWords<'a>),
     CheckPlan(CheckPlanFiles<'a>),
     Impossible(ImpossibleFiles<'a>),
+    Fit(FitFiles<'a>),
 }
 
 /// The file names of `plan TABLE CERT`.
@@ -86,6 +88,15 @@ pub struct ImpossibleFiles<'a> {
     pub table: &'a str,
 }
 
+/// The file names of `fit JOB LIST`.
+#[derive(Clone, Copy)]
+pub struct FitFiles<'a> {
+    /// The job text.
+    pub job: &'a str,
+    /// The list of slots.
+    pub list: &'a str,
+}
+
 /// The command that words say; none where they are those of no command.
 pub fn parse(words: &[String]) -> Option<Parsed<'_>>
     ensures { IsSaid (map string_bytes words.now) (command_of result) }
@@ -142,6 +153,12 @@ fn parse_pair<'a>(verb: &str, first: &'a str, second: &'a str) -> Option<Parsed<
             certificate: second,
         }));
     }
+    if is_fit(verb, first, second) {
+        return Some(Parsed::Fit(FitFiles {
+            job: first,
+            list: second,
+        }));
+    }
     None
 }
 
@@ -157,6 +174,13 @@ fn is_check_plan(verb: &str, table: &str, certificate: &str) -> bool
     ensures { IsTrue result ↔ IsCheckPlanCommand (verb.now ∷ table.now ∷ certificate.now ∷ []) table.now certificate.now }
 {
     verb == "check-plan" && !table.is_empty() && !certificate.is_empty() && table != certificate
+}
+
+/// Whether three words are `fit JOB LIST`.
+fn is_fit(verb: &str, job: &str, list: &str) -> bool
+    ensures { IsTrue result ↔ IsFitCommand (verb.now ∷ job.now ∷ list.now ∷ []) job.now list.now }
+{
+    verb == "fit" && !job.is_empty() && !list.is_empty() && job != list
 }
 
 /// The command that a verb and three words say.
@@ -264,7 +288,7 @@ fn are_two_names(first: &str, second: &str) -> bool
 }
 
 /// The number below 2^64 that a word is in decimal, without sign or needless leading zero.
-fn decimal_number(word: &str) -> Option<u64>
+pub fn decimal_number(word: &str) -> Option<u64>
     ensures { IsDecimal word.now result }
 {
     if !begins_plainly(word.as_bytes()) {

@@ -19,6 +19,7 @@ pub fn refusal_report(refusal: &JobRefusal) -> Report
         JobRefusal::JobSyntax => Report::JobSyntax,
         JobRefusal::JobField(name) => Report::JobField { name: *name },
         JobRefusal::JobLimit(name) => Report::JobLimit { name: *name },
+        JobRefusal::ListSyntax(line) => Report::ListSyntax { line: *line },
     }
 }
 

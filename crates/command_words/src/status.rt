@@ -6,7 +6,7 @@ use certificate_checker::CertFault;
 use job_programs::SourceFault;
 use slot_rule::Miss;
 
-/// Why the text of a table or a job is refused.
+/// Why the text of a table, a job or a list of slots is refused.
 #[derive(Clone, Copy)]
 pub enum JobRefusal {
     /// The first line, from 1, that no table text has there.
@@ -19,6 +19,8 @@ pub enum JobRefusal {
     JobField(ArrayString<32>),
     /// The name of the first field of a job text that breaks a limit.
     JobLimit(ArrayString<32>),
+    /// The first line, from 1, that no list of slots has there; 0 where its text is too long.
+    ListSyntax(u64),
 }
 
 /// Why a certificate is refused.
@@ -37,7 +39,7 @@ pub enum Status {
     Ok,
     /// The words are no command.
     Usage,
-    /// The text of the table or the job is refused.
+    /// The text of the table, the job or the list is refused.
     JobRefused(JobRefusal),
     /// A program is refused, and none before it.
     SourceRefused(SourceFault),
@@ -53,6 +55,8 @@ pub enum Status {
     Missing,
     /// Memory was wanted and not there.
     OutOfMemory,
+    /// The job fits in none of the slots of the list.
+    NoFit,
 }
 
 impl Status {
@@ -71,6 +75,7 @@ impl Status {
             Status::CertRefused(_) => 8,
             Status::Missing => 9,
             Status::OutOfMemory => 10,
+            Status::NoFit => 12,
         }
     }
 }

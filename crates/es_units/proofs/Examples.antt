@@ -1,6 +1,7 @@
 -- The cut computed at worked examples. Each start code is followed by one byte 7F, which is none of its own.
-use Rattle.std.proofs.Common.{◌≡◌, ℕ, List, [], ◌∷◌, ◌++◌, Option, Some, None, refl}
+use Rattle.std.proofs.Common.{◌≡◌, ℕ, true, false, List, [], ◌∷◌, ◌++◌, Option, Some, None, refl}
 use Rattle.es_units.specs.declared.units.Units.{Units}
+use Rattle.es_units.specs.Pictures.{begins_picture}
 use Rattle.es_units.specs.Units.{cut_units}
 
 abbrev pub code : ℕ → List ℕ
@@ -54,3 +55,9 @@ no_sequence = refl
 
 nothing : cut_units [] ≡ None
 nothing = refl
+
+-- ---- where pictures begin: the time code of a group of pictures header may look like a picture start code
+
+no_picture : (begins_picture (0x00 ∷ 0x00 ∷ 0x01 ∷ 0xB8 ∷ 0x00 ∷ 0x00 ∷ 0x01 ∷ 0x00 ∷ 0x00 ∷ 0x00 ∷ 0x01 ∷ 0x00 ∷ []) 4 ≡ false)
+    × (begins_picture (0x00 ∷ 0x00 ∷ 0x01 ∷ 0xB8 ∷ 0x00 ∷ 0x00 ∷ 0x01 ∷ 0x00 ∷ 0x00 ∷ 0x00 ∷ 0x01 ∷ 0x00 ∷ []) 8 ≡ true)
+no_picture = (refl, refl)

@@ -57,7 +57,7 @@ places_split to end le =
     let from : 0 + (to - 0) ≡ to = omega arith in
     split_range (to - 0) (end - to) 0 (end - 0) (omega arith) ∙ ap (λ (k : ℕ). places 0 to ++ range_with_len k (end - to)) from
 
-filter_append : (p : ℕ → Bool) (xs ys : List ℕ) → filter p (xs ++ ys) ≡ filter p xs ++ filter p ys
+pub filter_append : (p : ℕ → Bool) (xs ys : List ℕ) → filter p (xs ++ ys) ≡ filter p xs ++ filter p ys
 filter_append p [] ys = refl
 filter_append p (x ∷ xs) ys = by_test (p x) refl (filter_append p xs ys)
   where
@@ -166,7 +166,7 @@ module _ (es : List ℕ) (from to : ℕ) (le : from ≤ to) (none : (k : ℕ) �
 -- ---- what is known at a place says of all units
 
 -- no start code stands so far behind
-past_end : (es : List ℕ) (k : ℕ) → length es ≤ k + 3 → is_start_code_at es k ≡ false
+pub past_end : (es : List ℕ) (k : ℕ) → length es ≤ k + 3 → is_start_code_at es k ≡ false
 past_end es k le = and_left _ _ (le-ltb (k + 3) (length es) le)
 
 all_of : (es : List ℕ) (given : List (ℕ × ℕ)) (begin : Option ℕ) (dropped : ℕ) → HasUnits es (length es) given begin dropped

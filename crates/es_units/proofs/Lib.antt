@@ -8,5 +8,6 @@ pub mod CutterSteps
 pub mod Examples
 pub mod FrontCodes
 pub mod Fronts
+pub mod PicturesFound
 pub mod Places
 pub mod Spans

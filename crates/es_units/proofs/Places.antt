@@ -1,6 +1,7 @@
 -- What tests find among places in order.
-use Rattle.std.proofs.Common.{◌≡◌, ℕ, zero, suc, ◌+◌, ◌-◌, ◌<◌, ◌≤◌, Bool, true, false, List, [], ◌∷◌, ◌++◌, filter, Some, None, refl, ap, ◌∙◌, arith}
-use Rattle.std.specs.List.{find, range_with_len}
+use Rattle.std.proofs.Common.{◌≡◌, ℕ, zero, suc, ◌+◌, ◌-◌, ◌<◌, ◌≤◌, Bool, true, false, ◌||◌, List, [], ◌∷◌, ◌++◌, filter, Some, None, refl, sym, ap, subst, inl, inr, ◌∙◌, arith}
+use Rattle.std.specs.List.{find, list_any, range_with_len}
+use Rattle.std.proofs.lemmas.Bool.{cases_eq}
 use Rattle.list_types.proofs.Search.{find_range}
 use Rattle.es_units.specs.Units.{places}
 
@@ -46,12 +47,14 @@ filter_none test from end le none = filter_from test from end end le (omega arit
 pub find_place : (test : ℕ → Bool) (end found : ℕ) → found < end → test found ≡ true → ((at : ℕ) → at < found → test at ≡ false) → find test (places 0 end) ≡ Some found
 find_place test end found lt is none = find_range test (end - 0) 0 found (omega arith) (omega arith) is (λ at b u. none at u)
 
-none_in_range : (test : ℕ → Bool) (n from : ℕ) → ((at : ℕ) → test at ≡ false) → find test (range_with_len from n) ≡ None
+pub none_in_range : (test : ℕ → Bool) (n from : ℕ) → ((at : ℕ) → from ≤ at → at < from + n → test at ≡ false) → find test (range_with_len from n) ≡ None
 none_in_range test zero from none = refl
-none_in_range test (suc n) from none = rw (none from) (none_in_range test n (from + 1) none)
+none_in_range test (suc n) from none =
+    let here : test from ≡ false = none from (omega arith) (omega arith) in
+    rw here (none_in_range test n (from + 1) (λ at b u. none at (omega arith) (omega arith)))
 
 pub no_place : (test : ℕ → Bool) (end : ℕ) → ((at : ℕ) → test at ≡ false) → find test (places 0 end) ≡ None
-no_place test end none = none_in_range test (end - 0) 0 none
+no_place test end none = none_in_range test (end - 0) 0 (λ at b u. none at)
 
 pub filter_at : (test : ℕ → Bool) (from at end : ℕ) → from ≤ at → at < end → ((k : ℕ) → from ≤ k → k < at → test k ≡ false) → test at ≡ true
     → filter test (places from end) ≡ at ∷ filter test (places (at + 1) end)
@@ -62,3 +65,22 @@ pub filter_past : (test : ℕ → Bool) (from at end : ℕ) → from ≤ at → 
     → filter test (places from end) ≡ filter test (places (at + 1) end)
 filter_past test from at end begun lt none is =
     filter_from test from at end begun (omega arith) none ∙ ap (filter test) (places_first at end lt) ∙ rw is refl
+
+-- ---- whether some place passes
+
+or_later : (a b : Bool) → b ≡ true → (a || b) ≡ true
+or_later true b is = refl
+or_later false b is = is
+
+pub some_place : (test : ℕ → Bool) (n from found : ℕ) → from ≤ found → found < from + n → test found ≡ true → list_any test (range_with_len from n) ≡ true
+some_place test zero from found begun upto is = absurd (omega arith)
+some_place test (suc n) from found begun upto is = elim (cases_eq from found) [
+  | inl same ↦ (let here : test from ≡ true = subst (λ (k : ℕ). test k ≡ true) (sym same) is in rw here refl)
+  | inr apart ↦ or_later (test from) (list_any test (range_with_len (from + 1) n)) (some_place test n (from + 1) found (omega arith) (omega arith) is)
+]
+
+pub none_passes : (test : ℕ → Bool) (n from : ℕ) → ((at : ℕ) → from ≤ at → at < from + n → test at ≡ false) → list_any test (range_with_len from n) ≡ false
+none_passes test zero from none = refl
+none_passes test (suc n) from none =
+    let here : test from ≡ false = none from (omega arith) (omega arith) in
+    rw here (none_passes test n (from + 1) (λ at b u. none at (omega arith) (omega arith)))

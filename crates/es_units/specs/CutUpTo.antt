@@ -1,5 +1,5 @@
 -- What is cut of a video stream before a place (ISO/IEC 13818-2, 6.2; the cut is this project's).
-use Rattle.std.specs.Prelude.{◌≡◌, ℕ, ◌+◌, ◌-◌, ◌^◌, ◌<◌, min, nat_lt, nat_le, ◌&&◌, List, [], ◌++◌, length, filter, Option, Some, None}
+use Rattle.std.specs.Prelude.{◌≡◌, ℕ, ◌-◌, ◌^◌, ◌<◌, min, nat_lt, nat_le, ◌&&◌, List, [], ◌++◌, length, filter, Option, Some, None}
 use Rattle.std.specs.List.{find}
 use Rattle.list_types.specs.Spans.{spans}
 use Rattle.es_units.specs.declared.cut_state.CutState.{CutState}

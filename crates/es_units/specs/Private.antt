@@ -1,1 +1,2 @@
 pub mod CutState
+pub mod Groups

@@ -4,7 +4,7 @@ ghost use Rattle.es_units.specs.Units.{is_behind_slice, is_unit_cut, first_seque
 
 use crate::start_code::next_start_code;
 
-/// The place of the first sequence header.
+/// The place of the first sequence header, in bytes of the stream, or none where none stands (6.2.1, Table 6-1). Takes no memory.
 pub fn find_sequence(es: &[u8]) -> Option<usize>
     ensures at { result ≡ first_sequence es.now }
 {

@@ -36,6 +36,7 @@ gen_task seed pictures out = record {
   calls_for = λ told status. GenCallsFor status;
   may_refuse = λ status. ⊥;
   tells_work = λ told line. TellsProgram seed pictures line;
+  fits_none = λ told slots. ⊥;
   is_done = GenDone seed pictures out;
   leaves = GenLeaves seed pictures out;
   reads = λ told name limit. ⊥;

@@ -41,6 +41,7 @@ impossible_task table = record {
   calls_for = ImpossibleCallsFor table;
   may_refuse = ImpossibleMayRefuse;
   tells_work = TellsVerdict table;
+  fits_none = λ told slots. ⊥;
   is_done = ImpossibleDone table;
   leaves = λ files after. after ≡ files;
   reads = λ told name limit. (name ≡ table) × (limit ≡ TABLE_TEXT_MOST);

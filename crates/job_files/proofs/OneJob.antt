@@ -118,24 +118,24 @@ same_item (w ∷ ws) x us (z ∷ ys) y vs e same =
 -- ---- a file
 
 -- a file holds one text
-one_text : (files : Files) (name text other : List ℕ) → get files name ≡ Some text → get files name ≡ Some other → text ≡ other
+pub one_text : (files : Files) (name text other : List ℕ) → get files name ≡ Some text → get files name ≡ Some other → text ≡ other
 one_text files name text other a b = same_Some _ _ (sym a ∙ b)
 
 -- a file holds one job
-one_job : (files : Files) (name : List ℕ) (named : List (List ℕ)) (j k : Job) → HoldsJob (Some files) name named j → HoldsJob (Some files) name named k → j ≡ k
+pub one_job : (files : Files) (name : List ℕ) (named : List (List ℕ)) (j k : Job) → HoldsJob (Some files) name named j → HoldsJob (Some files) name named k → j ≡ k
 one_job files name named j k a b =
     let same : a.text ≡ b.text = one_text files name a.text b.text a.held b.held in
     one_spelled b.text j k (subst (λ (text : List ℕ). SpellsJob text j) same a.is_job.spells) b.is_job.spells
 
 -- a file that holds a job isn't refused
-held_or_refused : (files : Files) (name : List ℕ) (named : List (List ℕ)) (job : Job) (refusal : TextRefusal)
+pub held_or_refused : (files : Files) (name : List ℕ) (named : List (List ℕ)) (job : Job) (refusal : TextRefusal)
     → HoldsJob (Some files) name named job → HoldsRefused (Some files) name named refusal → ⊥
 held_or_refused files name named job refusal a b =
     let same : a.text ≡ b.text = one_text files name a.text b.text a.held b.held in
     job_or_refused b.text named job refusal (subst (λ (text : List ℕ). IsJobOfText text named job) same a.is_job) b.refused
 
 -- a file that holds a text is there
-held_or_lacked : (files : Files) (name text : List ℕ) → get files name ≡ Some text → get files name ≡ None → ⊥
+pub held_or_lacked : (files : Files) (name text : List ℕ) → get files name ≡ Some text → get files name ≡ None → ⊥
 held_or_lacked files name text held lacks = none-some text (sym lacks ∙ held)
 
 -- the program that isn't there

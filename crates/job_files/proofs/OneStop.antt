@@ -4,9 +4,9 @@ use Rattle.std.specs.FinMap.{get}
 use Rattle.job_programs.specs.declared.source_fault.SourceFault.{SourceFault}
 use Rattle.shelf_io.specs.Files.{Files}
 use Rattle.command_words.specs.declared.status.Status.{Status}
-use Rattle.command_words.specs.declared.status.Status.TheVariants.{Ok, Usage, JobRefused, SourceRefused, Unschedulable, ReadFault, WriteFault, CertRefused, Missing, OutOfMemory}
+use Rattle.command_words.specs.declared.status.Status.TheVariants.{Ok, Usage, JobRefused, SourceRefused, Unschedulable, ReadFault, WriteFault, CertRefused, Missing, OutOfMemory, NoFit}
 use Rattle.command_words.specs.declared.status.JobRefusal.{JobRefusal}
-use Rattle.command_words.specs.declared.status.JobRefusal.TheVariants.{TableSyntax, TableLimit, JobSyntax, JobField, JobLimit}
+use Rattle.command_words.specs.declared.status.JobRefusal.TheVariants.{TableSyntax, TableLimit, JobSyntax, JobField, JobLimit, ListSyntax}
 use Rattle.command_words.specs.Status.{IsSameStatus}
 use Rattle.job_files.specs.declared.job_stop.TextRefusal.{TextRefusal}
 use Rattle.job_files.specs.declared.job_stop.TextRefusal.TheVariants.{NoDocument, Field, Limit}
@@ -46,6 +46,7 @@ table_or_stop laws files name named made (JobRefused (JobField field)) a b = law
 table_or_stop laws files name named made (JobRefused (JobLimit field)) a b = laws.table_without_text files name named made (Limit field) a b
 table_or_stop laws files name named made (JobRefused (TableSyntax n)) a b = b
 table_or_stop laws files name named made (JobRefused (TableLimit field)) a b = b
+table_or_stop laws files name named made (JobRefused (ListSyntax n)) a b = b
 table_or_stop laws files name named made (SourceRefused fault) a b = laws.table_without_program files name named made fault a b
 table_or_stop laws files name named made Missing a b = laws.table_without_missing files name named made b.0 a b.1 b.2
 table_or_stop laws files name named made Ok a b = b
@@ -55,6 +56,7 @@ table_or_stop laws files name named made ReadFault a b = b
 table_or_stop laws files name named made WriteFault a b = b
 table_or_stop laws files name named made (CertRefused refusal) a b = b
 table_or_stop laws files name named made OutOfMemory a b = b
+table_or_stop laws files name named made NoFit a b = b
 
 -- a text that is refused has no refused program
 text_or_program : JobLaws → (files : Files) (name : List ℕ) (named : List (List ℕ)) (refusal : JobRefusal) (fault : SourceFault)
@@ -64,6 +66,7 @@ text_or_program laws files name named (JobField field) fault a b = laws.text_wit
 text_or_program laws files name named (JobLimit field) fault a b = laws.text_without_program files name named (Limit field) fault a b
 text_or_program laws files name named (TableSyntax n) fault a b = a
 text_or_program laws files name named (TableLimit field) fault a b = a
+text_or_program laws files name named (ListSyntax n) fault a b = a
 
 -- a text that is refused has no next file that isn't there
 text_or_missing : JobLaws → (files : Files) (name : List ℕ) (named : List (List ℕ)) (refusal : JobRefusal)
@@ -73,6 +76,7 @@ text_or_missing laws files name named (JobField field) a b = laws.text_without_m
 text_or_missing laws files name named (JobLimit field) a b = laws.text_without_missing files name named (Limit field) b.0 a b.1 b.2
 text_or_missing laws files name named (TableSyntax n) a b = a
 text_or_missing laws files name named (TableLimit field) a b = a
+text_or_missing laws files name named (ListSyntax n) a b = a
 
 -- a refused program comes after every file that is read
 program_or_missing : JobLaws → (files : Files) (name : List ℕ) (named : List (List ℕ)) (fault : SourceFault)
@@ -93,8 +97,10 @@ one_refusal laws files name named (JobLimit field) (JobField other) a b = laws.t
 one_refusal laws files name named (JobLimit field) (JobLimit other) a b = laws.text files name named (Limit field) (Limit other) a b
 one_refusal laws files name named (TableSyntax n) other a b = absurd a
 one_refusal laws files name named (TableLimit field) other a b = absurd a
+one_refusal laws files name named (ListSyntax n) other a b = absurd a
 one_refusal laws files name named refusal (TableSyntax n) a b = absurd b
 one_refusal laws files name named refusal (TableLimit field) a b = absurd b
+one_refusal laws files name named refusal (ListSyntax n) a b = absurd b
 
 -- a job calls for one status before there is a table
 pub stops_are_one : JobLaws → (files : Files) (name : List ℕ) (named : List (List ℕ)) (s t : Status) → JobCallsFor (Some files) name named s → JobCallsFor (Some files) name named t → IsSameStatus s t
@@ -114,6 +120,7 @@ stops_are_one laws files name named ReadFault t a b = absurd a
 stops_are_one laws files name named WriteFault t a b = absurd a
 stops_are_one laws files name named (CertRefused refusal) t a b = absurd a
 stops_are_one laws files name named OutOfMemory t a b = absurd a
+stops_are_one laws files name named NoFit t a b = absurd a
 stops_are_one laws files name named s Ok a b = absurd b
 stops_are_one laws files name named s Usage a b = absurd b
 stops_are_one laws files name named s (Unschedulable miss) a b = absurd b
@@ -121,6 +128,7 @@ stops_are_one laws files name named s ReadFault a b = absurd b
 stops_are_one laws files name named s WriteFault a b = absurd b
 stops_are_one laws files name named s (CertRefused refusal) a b = absurd b
 stops_are_one laws files name named s OutOfMemory a b = absurd b
+stops_are_one laws files name named s NoFit a b = absurd b
 
 -- the laws that follow: a job has one table, calls for one status before there is a table, and never for one where there is
 pub record StopLaws : Type 0 where

@@ -1,5 +1,5 @@
 -- From a job's file to its table, in several calls.
-use Rattle.std.proofs.Common.{◌≡◌, ℕ, ◌≤◌, List, [], ◌∷◌, ◌++◌, All, Option, Result, Ok, Err, IfOk, IfErr, sym, subst, inr, ◌∙◌, arith}
+use Rattle.std.proofs.Common.{◌≡◌, ℕ, ◌≤◌, List, [], ◌∷◌, ◌++◌, All, Option, Result, Ok, Err, IfOk, IfErr, sym, subst, inl, inr, ◌∙◌, arith}
 use Rattle.std.proofs.lemmas.List.Elements.{All-cons, All-nil}
 use Rattle.bit_lists.specs.Fields.{AreBytes}
 use Rattle.shelf_io.specs.Causes.{ReadCauses}
@@ -20,10 +20,11 @@ use Rattle.version_table.specs.Table.{IsValidTable}
 use Rattle.job_files.specs.declared.job_stop.JobStop.{JobStop}
 use Rattle.job_files.specs.declared.job_stop.JobStop.TheVariants.{Text, Source, Unread, Missing, OutOfMemory}
 use Rattle.job_files.specs.declared.job_table.JobTable.{JobTable}
-use Rattle.job_files.specs.JobFile.{HoldsJob, HoldsRefused}
-use Rattle.job_files.specs.JobTable.{IsJobTable}
-use Rattle.job_files.specs.Stops.{IsNextFile, StopsFor}
-use Rattle.job_files.specs.Private.Steps.{IsMissing, IsProgramAt, IsTableOfJob, IsUnread, StopsJob}
+use Rattle.job_files.specs.declared.job_stop.TextRefusal.{TextRefusal}
+use Rattle.job_files.specs.JobFile.{HoldsJob, HoldsRefused, IsJobOfText}
+use Rattle.job_files.specs.JobTable.{IsJobTable, IsTableOfJob}
+use Rattle.job_files.specs.Stops.{StopsFile, StopsFor, StopsJob}
+use Rattle.job_files.specs.Private.Steps.{IsMissing, IsProgramAt, IsUnread}
 use Rattle.job_files.specs.Private.Texts.{IsTextStop}
 
 -- a program that a file holds can be sent
@@ -110,33 +111,53 @@ stops_later told between name named job old middle new since (Err stop) same hol
     (subst (λ (t : Option Files). StopsJob t job middle new since stop) same stops)
 
 -- a text that gave no job
-pub text_stops : (told : Option Files) (name front : List ℕ) (named : List (List ℕ)) (old new : ShelfCounts) (since : ℕ) (stop : JobStop)
-    → ((refusal : _) → IsTextStop front named (Text refusal) → HoldsRefused told name named refusal) → IsTextStop front named stop
-    → StopsFor told name named old new since stop
+text_stops : (told : Option Files) (name front : List ℕ) (named : List (List ℕ)) (old new : ShelfCounts) (since : ℕ) (stop : JobStop)
+    → ((refusal : TextRefusal) → IsTextStop front named (Text refusal) → HoldsRefused told name named refusal) → IsTextStop front named stop
+    → StopsFile told name named old new since stop
 text_stops told name front named old new since (Text refusal) holds stops = holds refusal stops
 text_stops told name front named old new since (Source fault) holds stops = absurd stops
 text_stops told name front named old new since (Unread file) holds stops = absurd stops
 text_stops told name front named old new since (Missing file) holds stops = absurd stops
 text_stops told name front named old new since OutOfMemory holds stops = tt
 
+pub texts_stop : (told : Option Files) (name front : List ℕ) (named : List (List ℕ)) (old new : ShelfCounts) (since : ℕ) (result : Result Job JobStop)
+    → ((refusal : TextRefusal) → IsTextStop front named (Text refusal) → HoldsRefused told name named refusal) → IfErr result (IsTextStop front named)
+    → IfErr result (StopsFile told name named old new since)
+texts_stop told name front named old new since (Ok job) holds stops = tt
+texts_stop told name front named old new since (Err stop) holds stops = text_stops told name front named old new since stop holds stops
+
+-- and one that gave one
+pub jobs_held : (told : Option Files) (name front : List ℕ) (named : List (List ℕ)) (result : Result Job JobStop)
+    → ((job : Job) → IsJobOfText front named job → HoldsJob told name named job) → IfOk result (IsJobOfText front named) → IfOk result (HoldsJob told name named)
+jobs_held told name front named (Ok job) holds is = holds job is
+jobs_held told name front named (Err stop) holds is = tt
+
 -- a file that couldn't be read
-pub unread_stops : (told : Option Files) (name : List ℕ) (named : List (List ℕ)) (file : List ℕ) (old new : ShelfCounts) (since : ℕ) (stop : JobStop)
-    → IsNextFile told name named file → Rose old.faults new.faults → since ≡ 0 → IsUnread file stop → StopsFor told name named old new since stop
-unread_stops told name named file old new since (Unread other) next rose last is = (subst (λ (f : List ℕ). IsNextFile told name named f) (sym is) next, rose, last)
-unread_stops told name named file old new since (Text refusal) next rose last is = absurd is
-unread_stops told name named file old new since (Source fault) next rose last is = absurd is
-unread_stops told name named file old new since (Missing other) next rose last is = absurd is
-unread_stops told name named file old new since OutOfMemory next rose last is = tt
+pub unread_stops : (told : Option Files) (name : List ℕ) (named : List (List ℕ)) (old new : ShelfCounts) (since : ℕ) (stop : JobStop)
+    → Rose old.faults new.faults → since ≡ 0 → IsUnread name stop → StopsFile told name named old new since stop
+unread_stops told name named old new since (Unread other) rose last is = (is, rose, last)
+unread_stops told name named old new since (Text refusal) rose last is = absurd is
+unread_stops told name named old new since (Source fault) rose last is = absurd is
+unread_stops told name named old new since (Missing other) rose last is = absurd is
+unread_stops told name named old new since OutOfMemory rose last is = tt
 
 -- a file that isn't there
-pub missing_stops : (told : Option Files) (name : List ℕ) (named : List (List ℕ)) (file : List ℕ) (old new : ShelfCounts) (since : ℕ) (stop : JobStop)
-    → IsNextFile told name named file → Lacks told file → Rose old.absences new.absences → since ≡ 0 → IsMissing file stop → StopsFor told name named old new since stop
-missing_stops told name named file old new since (Missing other) next lacks rose last is =
-    (subst (λ (f : List ℕ). IsNextFile told name named f) (sym is) next, subst (λ (f : List ℕ). Lacks told f) (sym is) lacks, rose, last)
-missing_stops told name named file old new since (Text refusal) next lacks rose last is = absurd is
-missing_stops told name named file old new since (Source fault) next lacks rose last is = absurd is
-missing_stops told name named file old new since (Unread other) next lacks rose last is = absurd is
-missing_stops told name named file old new since OutOfMemory next lacks rose last is = tt
+pub missing_stops : (told : Option Files) (name : List ℕ) (named : List (List ℕ)) (old new : ShelfCounts) (since : ℕ) (stop : JobStop)
+    → Lacks told name → Rose old.absences new.absences → since ≡ 0 → IsMissing name stop → StopsFile told name named old new since stop
+missing_stops told name named old new since (Missing other) lacks rose last is = (is, subst (λ (f : List ℕ). Lacks told f) (sym is) lacks, rose, last)
+missing_stops told name named old new since (Text refusal) lacks rose last is = absurd is
+missing_stops told name named old new since (Source fault) lacks rose last is = absurd is
+missing_stops told name named old new since (Unread other) lacks rose last is = absurd is
+missing_stops told name named old new since OutOfMemory lacks rose last is = tt
+
+-- what stopped the reading of a job's file stopped that of its table
+pub file_stops : (told : Option Files) (name : List ℕ) (named : List (List ℕ)) (old new : ShelfCounts) (since : ℕ) (stop : JobStop)
+    → StopsFile told name named old new since stop → StopsFor told name named old new since stop
+file_stops told name named old new since (Text refusal) stops = stops
+file_stops told name named old new since (Source fault) stops = absurd stops
+file_stops told name named old new since (Unread file) stops = (inl stops.0, stops.1, stops.2)
+file_stops told name named old new since (Missing file) stops = (inl stops.0, stops.1, stops.2, stops.3)
+file_stops told name named old new since OutOfMemory stops = tt
 
 -- a program at which reading stopped
 pub program_at : (told : Option Files) (job : Job) (number : ℕ) (stopped : ProgramJob) → StopsAtProgram told job number stopped → IsProgramAt job number stopped

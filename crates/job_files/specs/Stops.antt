@@ -41,6 +41,30 @@ StopsFor told name named old new since_fault (Missing file) =
     IsNextFile told name named file × Lacks told file × Rose old.absences new.absences × (since_fault ≡ 0)
 StopsFor told name named old new since_fault OutOfMemory = Unit {0}
 
+-- Why there is no job of a file: its text is refused; it can't be read, where the count of faults rose, or isn't there, where that of absences
+-- did, and no call followed; or memory was wanted.
+abbrev pub StopsFile : Option Files → (name : List ℕ) → (named : List (List ℕ)) → (old new : ShelfCounts) → (since_fault : ℕ) → JobStop → Type 0
+StopsFile told name named old new since_fault (Text refusal) = HoldsRefused told name named refusal
+StopsFile told name named old new since_fault (Source fault) = ⊥
+StopsFile told name named old new since_fault (Unread file) = (file ≡ name) × Rose old.faults new.faults × (since_fault ≡ 0)
+StopsFile told name named old new since_fault (Missing file) = (file ≡ name) × Lacks told file × Rose old.absences new.absences × (since_fault ≡ 0)
+StopsFile told name named old new since_fault OutOfMemory = Unit {0}
+
+-- a file of a program of the job was next to be read
+pub record IsNextOf (told : Option Files) (job : Job) (file : List ℕ) : Type 0 where
+  pub number : ℕ
+  pub program : ProgramJob
+  pub stops : StopsAtProgram told job number program
+  pub file_is : file ≡ program.file
+
+-- why the programs of a job have no table
+abbrev pub StopsJob : Option Files → Job → (old new : ShelfCounts) → (since_fault : ℕ) → JobStop → Type 0
+StopsJob told job old new since_fault (Text refusal) = ⊥
+StopsJob told job old new since_fault (Source fault) = IsRefusedOn told job fault
+StopsJob told job old new since_fault (Unread file) = IsNextOf told job file × Rose old.faults new.faults × (since_fault ≡ 0)
+StopsJob told job old new since_fault (Missing file) = IsNextOf told job file × Lacks told file × Rose old.absences new.absences × (since_fault ≡ 0)
+StopsJob told job old new since_fault OutOfMemory = Unit {0}
+
 -- there is no table of a job since a file can't be read, or memory was wanted to say so
 abbrev pub EndsUnread : JobStop → Type 0
 EndsUnread (Unread file) = Unit {0}

@@ -5,10 +5,12 @@ ghost use Rattle.job_programs.specs.Programs.{ArePrograms};
 ghost use Rattle.job_programs.specs.Sizes.{AreJobSizes};
 ghost use Rattle.job_programs.specs.Told.{AreProgramsOn, AsksForPrograms, CountReads, HasReadCause, ReadsEnd};
 ghost use Rattle.program_table.specs.Table.{IsTableOf};
+ghost use Rattle.shelf_io.specs.Asked.{AsksUpTo};
 ghost use Rattle.version_table.specs.Table.{IsValidTable};
-ghost use Rattle.job_files.specs.JobTable.{IsJobTable};
-ghost use Rattle.job_files.specs.Stops.{AsksForJob, EndsMissing, EndsUnread, StopsFor};
-ghost use Rattle.job_files.specs.Private.Steps.{IsMissing, IsProgramAt, IsTableOfJob, IsUnread, StopsJob};
+ghost use Rattle.job_files.specs.JobTable.{IsJobTable, IsTableOfJob};
+ghost use Rattle.job_files.specs.JobFile.{HoldsJob};
+ghost use Rattle.job_files.specs.Stops.{AsksForJob, EndsMissing, EndsUnread, StopsFile, StopsFor, StopsJob};
+ghost use Rattle.job_files.specs.Private.Steps.{IsMissing, IsProgramAt, IsUnread};
 
 use crate::bytes::see_videos;
 use crate::job_stop::JobStop;
@@ -46,19 +48,47 @@ pub fn read_job_table<K: Shelf>(
     ensures counts { CountReads (K.counts shelf.old) (K.counts shelf.new) }
     ensures ends { ReadsEnd (IsErrAnd result EndsUnread) (IsErrAnd result EndsMissing) (K.counts shelf.old) (K.counts shelf.new) (K.since_fault shelf.new) }
 {
+    match read_job_file(alloc, shelf, name, named) {
+        Ok(job) => read_table_of_job(alloc, shelf, job),
+        Err(stop) => Err(stop),
+    }
+}
+
+/// The job in a file of a shelf, or why there is none; no program of it is read. `named` are the files that the command names itself: no
+/// program may stand in one of them.
+///
+/// No file is changed.
+pub fn read_job_file<K: Shelf>(
+    alloc: Global,
+    shelf: &mut K,
+    name: &str,
+    named: &[&str],
+) -> Result<Job, JobStop>
+    ensures job { IfOk result (HoldsJob (K.files shelf.old) name.now (map (λ file. file.now) named.now)) }
+    ensures valid { IfOk result IsValidJob }
+    ensures stop { IfErr result (StopsFile (K.files shelf.old) name.now (map (λ file. file.now) named.now) (K.counts shelf.old) (K.counts shelf.new) (K.since_fault shelf.new)) }
+
+    ensures files { K.files shelf.new ≡ K.files shelf.old }
+    ensures asked { AsksUpTo name.now (JOB_TEXT_MOST + 1) (K.asked shelf.old) (K.asked shelf.new) }
+    ensures counts { CountReads (K.counts shelf.old) (K.counts shelf.new) }
+    ensures ends { ReadsEnd (IsErrAnd result EndsUnread) (IsErrAnd result EndsMissing) (K.counts shelf.old) (K.counts shelf.new) (K.since_fault shelf.new) }
+{
     match read_file(alloc, shelf, name, JOB_TEXT_MOST as u64) {
-        Ok(text) => match job_of_text(alloc, text.as_slice(), named) {
-            Ok(job) => table_of_job(alloc, shelf, job),
-            Err(stop) => Err(stop),
-        },
+        Ok(text) => job_of_text(alloc, text.as_slice(), named),
         Err(Fault::Failed) => Err(unread(alloc, name)),
         Err(Fault::Missing) => Err(missing(alloc, name)),
         Err(Fault::OutOfMemory) => Err(JobStop::OutOfMemory),
     }
 }
 
-/// From the job on.
-fn table_of_job<K: Shelf>(alloc: Global, shelf: &mut K, job: Job) -> Result<JobTable, JobStop>
+/// The table of a job, with its programs, or why there is none.
+///
+/// No file is changed.
+pub fn read_table_of_job<K: Shelf>(
+    alloc: Global,
+    shelf: &mut K,
+    job: Job,
+) -> Result<JobTable, JobStop>
     requires { IsValidJob job }
     ensures table { IfOk result (IsTableOfJob (K.files shelf.old) job) }
     ensures valid { IfOk result (λ made. IsValidTable made.table) }

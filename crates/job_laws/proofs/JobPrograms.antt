@@ -113,7 +113,7 @@ module _ (law : ReadIsSendable) (taken : TakenOutLaw) (gathered : GatheredAgain)
       (more : List CodedUnit)
       → layout.maps.items ≡ before ++ with_output_pids n job.number p.map ∷ rest → length before ≡ n → 1 ≤ job.number → All (IsOtherNumber (job ∷ jobs)) before → (content : List ℕ) (start : ℕ)
       → IsProgramOfFile content job.program job.drop.items start p → AreBytes p.video
-      → AreVideoVersions p.video coarser None p.units v → AllZip HasVersion (unit_rows job.weight p.units v ++ more) choice
+      → AreVideoVersions p.video coarser None p.units v → AllZip HasVersion (unit_rows job.weight job.drift p.units v ++ more) choice
       → AllCarry file (length rows) (pids_of (with_output_pids n job.number p.map)) (video_items p.units v choice ∷ map audio_items p.audios)
       → ParsesToProgram file content job (with_output_pids n job.number p.map) (sent_units p.units v choice)
   one-read n job jobs p coarser v choice before rest more split size some apart content start of bytes versions fits carry =
@@ -131,7 +131,7 @@ module _ (law : ReadIsSendable) (taken : TakenOutLaw) (gathered : GatheredAgain)
       let read : AreReadAs (sent_units p.units v choice) (bytes_of_packets (taken_out file program_map goes.video goes.audios).video) =
       subst (λ (bytes : List (List ℕ)). AreReadAs (sent_units p.units v choice) bytes) (sym (stream-packets gathered file goes.video (map sent_packet (sent_units p.units v choice)) carries))
       (units-read written (sent_units p.units v choice)
-      (units-said job.weight p.video p.units v choice more ready.sendable.units (video-versions-some p.video coarser None p.units v versions) fits)) in
+      (units-said job.weight job.drift p.video p.units v choice more ready.sendable.units (video-versions-some p.video coarser None p.units v versions) fits)) in
       record {
         demuxed = taken_out file program_map goes.video goes.audios;
         taken_out = taken layout slot pieces rows n program_map goes.video goes.audios are begin
@@ -141,9 +141,9 @@ module _ (law : ReadIsSendable) (taken : TakenOutLaw) (gathered : GatheredAgain)
         video = read;
         units =
             again (sent_units p.units v choice) (bytes_of_packets (taken_out file program_map goes.video goes.audios).video) read
-            (sent-led job.weight p.video coarser None p.units v choice more versions (led content job.program job.drop.items start p coarser v bytes of versions) fits)
-            (sent-whole job.weight None p.units v choice more (whole content job.program job.drop.items start p coarser v bytes of versions) fits);
-        slices = sent-slices job.weight None p.units v choice more (whole content job.program job.drop.items start p coarser v bytes of versions) fits;
+            (sent-led job.weight job.drift p.video coarser None p.units v choice more versions (led content job.program job.drop.items start p coarser v bytes of versions) fits)
+            (sent-whole job.weight job.drift None p.units v choice more (whole content job.program job.drop.items start p coarser v bytes of versions) fits);
+        slices = sent-slices job.weight job.drift None p.units v choice more (whole content job.program job.drop.items start p coarser v bytes of versions) fits;
         source = of.demuxed;
         source_is = of.demuxed_is;
         audio = audio-packets gathered file goes.audios (map (λ (stream : AudioStream). bytes_of_packets (taken_of stream)) of.demuxed.audios)
@@ -167,9 +167,9 @@ module _ (law : ReadIsSendable) (taken : TakenOutLaw) (gathered : GatheredAgain)
   read-back n (j ∷ js) (p ∷ ps) (v ∷ vs) choice before split size apart pairs valid slots start read done (c ∷ cs) next are_versions bytes fits carry =
       let program_map : ProgramMap = with_output_pids n j.number p.map in
       let is : IsReady p = ready-one law c j.program j.drop.items start p next.0.holds in
-      let row : ProgramRow = program_row j.weight p v in
+      let row : ProgramRow = program_row j.weight j.drift p v in
       let later : List CodedUnit = flat_map (λ (row : ProgramRow). row.units) (program_rows js ps vs) in
-      let many : length row.units ≡ length p.units = unit_rows-count j.weight p.video j.coarser.items _ p.units v are_versions.0 in
+      let many : length row.units ≡ length p.units = unit_rows-count j.weight j.drift p.video j.coarser.items _ p.units v are_versions.0 in
       let own : length (pids_of program_map) ≡ length (video_items p.units v choice ∷ map audio_items p.audios) =
       omega (arith, pids-count (video_pid n) p.map.streams.items, is.out.streams, length-map p.audios audio_items) in
       let parts = carry-parts file (length rows) (pids_of program_map) (flat_map pids_of (output_maps (n + 1) js ps)) (video_items p.units v choice ∷ map audio_items p.audios)

@@ -16,6 +16,7 @@ use Rattle.version_table.specs.Choice.{Fits, HasVersion, version_at}
 use Rattle.slot_rule.specs.Queues.{Queue, audio_of, payloads, queues_from, queues_of, video_queue}
 use Rattle.job_report.specs.declared.job.Job.{Job}
 use Rattle.job_report.specs.declared.job.ProgramJob.{ProgramJob}
+use Rattle.program_reader.specs.Carry.{unit_weight}
 use Rattle.program_reader.specs.declared.program.AudioPiece.{AudioPiece}
 use Rattle.program_reader.specs.declared.program.AudioSource.{AudioSource}
 use Rattle.program_reader.specs.declared.program.Program.{Program}
@@ -54,15 +55,15 @@ unit-pieces queued weight unit versions k within =
     sym (length-map (pes_pieces packet) (λ (piece : Payload). length piece.bytes)) ∙ ap length (queued packet (omega arith))
     ∙ ap (λ (bytes : ℕ). length (payloads bytes)) (packet-size weight unit versions k inside)
 
-video-sizes : AsQueued → (weight : ℕ) (units : List UnitSource) (versions : List (List UnitVersion)) (choice : List ℕ) (more : List CodedUnit)
-    → AllZip HasVersion (unit_rows weight units versions ++ more) choice
+video-sizes : AsQueued → (weight drift : ℕ) (units : List UnitSource) (versions : List (List UnitVersion)) (choice : List ℕ) (more : List CodedUnit)
+    → AllZip HasVersion (unit_rows weight drift units versions ++ more) choice
     → map (λ (pieces : List Payload). length pieces) (video_items units versions choice)
-    ≡ map (λ (chosen : CodedUnit × ℕ). length (payloads (version_at chosen.0 chosen.1).bytes)) (zip (unit_rows weight units versions) choice)
-video-sizes queued weight [] versions choice more fits = refl
-video-sizes queued weight (unit ∷ units) [] choice more fits = refl
-video-sizes queued weight (unit ∷ units) (v ∷ vs) [] more fits = refl
-video-sizes queued weight (unit ∷ units) (v ∷ vs) (k ∷ choice) more fits =
-    ap₂ (λ (n : ℕ) (sizes : List ℕ). n ∷ sizes) (unit-pieces queued weight unit v k fits.0) (video-sizes queued weight units vs choice more fits.1)
+    ≡ map (λ (chosen : CodedUnit × ℕ). length (payloads (version_at chosen.0 chosen.1).bytes)) (zip (unit_rows weight drift units versions) choice)
+video-sizes queued weight drift [] versions choice more fits = refl
+video-sizes queued weight drift (unit ∷ units) [] choice more fits = refl
+video-sizes queued weight drift (unit ∷ units) (v ∷ vs) [] more fits = refl
+video-sizes queued weight drift (unit ∷ units) (v ∷ vs) (k ∷ choice) more fits =
+    ap₂ (λ (n : ℕ) (sizes : List ℕ). n ∷ sizes) (unit-pieces queued (unit_weight weight drift unit units) unit v k fits.0) (video-sizes queued weight drift units vs choice more fits.1)
 
 audio-sizes : (bytes : List ℕ) (pieces : List AudioPiece)
     → map (λ (pieces : List Payload). length pieces) (map (λ (piece : AudioPiece). audio_payload bytes piece ∷ []) pieces)
@@ -128,11 +129,11 @@ all-send queued video audio first [] (p ∷ ps) versions choice are fits = absur
 all-send queued video audio first (j ∷ js) [] versions choice are fits = absurd are
 all-send queued video audio first (j ∷ js) (p ∷ ps) [] choice are fits = absurd are
 all-send queued video audio first (j ∷ js) (p ∷ ps) (v ∷ vs) choice are fits =
-    let row : ProgramRow = program_row j.weight p v in
+    let row : ProgramRow = program_row j.weight j.drift p v in
     let later : List CodedUnit = flat_map (λ (row : ProgramRow). row.units) (program_rows js ps vs) in
-    let count : length row.units ≡ length p.units = unit_rows-count j.weight p.video j.coarser.items _ p.units v are.0 in
+    let count : length row.units ≡ length p.units = unit_rows-count j.weight j.drift p.video j.coarser.items _ p.units v are.0 in
     let own : AllSend (video_queue first row choice ∷ map audio_of row.audios) (video_items p.units v choice ∷ map audio_items p.audios) =
-    (video first row choice (video_items p.units v choice) (video-sizes queued j.weight p.units v choice later fits), audios-send audio p.audios) in
+    (video first row choice (video_items p.units v choice) (video-sizes queued j.weight j.drift p.units v choice later fits), audios-send audio p.audios) in
     let rest = all-send queued video audio (first + 1) js ps vs (drop (length row.units) choice) are.1 (fits-behind row.units later choice fits) in
     send-both (video_queue first row choice ∷ map audio_of row.audios) (queues_from (first + 1) (program_rows js ps vs) (drop (length row.units) choice))
     (video_items p.units v choice ∷ map audio_items p.audios) (stream_items ps vs (drop (length p.units) choice)) own

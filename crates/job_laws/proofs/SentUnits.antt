@@ -12,6 +12,7 @@ use Rattle.picture_grammar.specs.Picture.{SpellsPicture}
 use Rattle.es_units.specs.Units.{cut_units}
 use Rattle.version_table.specs.declared.table.Unit.{Unit as CodedUnit}
 use Rattle.version_table.specs.Choice.{HasVersion}
+use Rattle.program_reader.specs.Carry.{unit_weight}
 use Rattle.program_reader.specs.declared.program.Program.{Program}
 use Rattle.program_reader.specs.declared.program.UnitSource.{UnitSource}
 use Rattle.program_reader.specs.Programs.{IsProgramOfFile}
@@ -65,37 +66,37 @@ moved before a b same is = (
 
 -- ---- all units
 
-pub sent-whole : (weight : ℕ) (before : Option SeqState) (units : List UnitSource) (versions : List (List UnitVersion)) (choice : List ℕ) (more : List CodedUnit) → AreWholeVersions before versions
-    → AllZip HasVersion (unit_rows weight units versions ++ more) choice → All IsWholeUnit (bytes_sent (sent_units units versions choice))
-sent-whole weight before [] versions choice more are fits = All-nil IsWholeUnit
-sent-whole weight before (u ∷ us) [] choice more are fits = All-nil IsWholeUnit
-sent-whole weight before (u ∷ us) (v ∷ vs) [] more are fits = All-nil IsWholeUnit
-sent-whole weight before (u ∷ us) (v ∷ vs) (k ∷ choice) more (after, here, rest) fits =
-    let within : k < length v = omega (arith, fits.0, length-map v (row_version weight u)) in
+pub sent-whole : (weight drift : ℕ) (before : Option SeqState) (units : List UnitSource) (versions : List (List UnitVersion)) (choice : List ℕ) (more : List CodedUnit) → AreWholeVersions before versions
+    → AllZip HasVersion (unit_rows weight drift units versions ++ more) choice → All IsWholeUnit (bytes_sent (sent_units units versions choice))
+sent-whole weight drift before [] versions choice more are fits = All-nil IsWholeUnit
+sent-whole weight drift before (u ∷ us) [] choice more are fits = All-nil IsWholeUnit
+sent-whole weight drift before (u ∷ us) (v ∷ vs) [] more are fits = All-nil IsWholeUnit
+sent-whole weight drift before (u ∷ us) (v ∷ vs) (k ∷ choice) more (after, here, rest) fits =
+    let within : k < length v = omega (arith, fits.0, length-map v (row_version (unit_weight weight drift u us) u)) in
     let one : IsWholeVersion before after (get_or v k no_version) = All-get_or (IsWholeVersion before after) v k no_version within here in
     All-cons IsWholeUnit (chosen_bytes v k) (bytes_sent (sent_units us vs choice)) (subst IsWholeUnit (chosen-is v k within) one.whole)
-    (sent-whole weight (Some after) us vs choice more rest fits.1)
+    (sent-whole weight drift (Some after) us vs choice more rest fits.1)
 
-pub sent-slices : (weight : ℕ) (before : Option SeqState) (units : List UnitSource) (versions : List (List UnitVersion)) (choice : List ℕ) (more : List CodedUnit) → AreWholeVersions before versions
-    → AllZip HasVersion (unit_rows weight units versions ++ more) choice → HaveNoCodeInSlices before (bytes_sent (sent_units units versions choice))
-sent-slices weight before [] versions choice more are fits = tt
-sent-slices weight before (u ∷ us) [] choice more are fits = tt
-sent-slices weight before (u ∷ us) (v ∷ vs) [] more are fits = tt
-sent-slices weight before (u ∷ us) (v ∷ vs) (k ∷ choice) more (after, here, rest) fits =
-    let within : k < length v = omega (arith, fits.0, length-map v (row_version weight u)) in
+pub sent-slices : (weight drift : ℕ) (before : Option SeqState) (units : List UnitSource) (versions : List (List UnitVersion)) (choice : List ℕ) (more : List CodedUnit) → AreWholeVersions before versions
+    → AllZip HasVersion (unit_rows weight drift units versions ++ more) choice → HaveNoCodeInSlices before (bytes_sent (sent_units units versions choice))
+sent-slices weight drift before [] versions choice more are fits = tt
+sent-slices weight drift before (u ∷ us) [] choice more are fits = tt
+sent-slices weight drift before (u ∷ us) (v ∷ vs) [] more are fits = tt
+sent-slices weight drift before (u ∷ us) (v ∷ vs) (k ∷ choice) more (after, here, rest) fits =
+    let within : k < length v = omega (arith, fits.0, length-map v (row_version (unit_weight weight drift u us) u)) in
     let one : IsWholeVersion before after (get_or v k no_version) = All-get_or (IsWholeVersion before after) v k no_version within here in
     let (slices, same) = moved before (get_or v k no_version).bytes (chosen_bytes v k) (chosen-is v k within) one.slices in
     let state : AreWholeVersions (Some slices.picture.seq) vs = subst (λ (s : SeqState). AreWholeVersions (Some s) vs) (sym (same ∙ one.leaves)) rest in
-    (slices, sent-slices weight (Some slices.picture.seq) us vs choice more state fits.1)
+    (slices, sent-slices weight drift (Some slices.picture.seq) us vs choice more state fits.1)
 
-pub sent-led : (weight : ℕ) (es coarser : List ℕ) (before : Option SeqState) (units : List UnitSource) (versions : List (List UnitVersion)) (choice : List ℕ) (more : List CodedUnit)
-    → AreVideoVersions es coarser before units versions → BeginWithSequence versions → AllZip HasVersion (unit_rows weight units versions ++ more) choice
+pub sent-led : (weight drift : ℕ) (es coarser : List ℕ) (before : Option SeqState) (units : List UnitSource) (versions : List (List UnitVersion)) (choice : List ℕ) (more : List CodedUnit)
+    → AreVideoVersions es coarser before units versions → BeginWithSequence versions → AllZip HasVersion (unit_rows weight drift units versions ++ more) choice
     → IsLedBySequence (bytes_sent (sent_units units versions choice))
-sent-led weight es coarser before units [] choice more are led fits = absurd led
-sent-led weight es coarser before [] (v ∷ vs) choice more are led fits = absurd are
-sent-led weight es coarser before (u ∷ us) (v ∷ vs) [] more are led fits = absurd fits
-sent-led weight es coarser before (u ∷ us) (v ∷ vs) (k ∷ choice) more are led fits =
-    let within : k < length v = omega (arith, fits.0, length-map v (row_version weight u)) in
+sent-led weight drift es coarser before units [] choice more are led fits = absurd led
+sent-led weight drift es coarser before [] (v ∷ vs) choice more are led fits = absurd are
+sent-led weight drift es coarser before (u ∷ us) (v ∷ vs) [] more are led fits = absurd fits
+sent-led weight drift es coarser before (u ∷ us) (v ∷ vs) (k ∷ choice) more are led fits =
+    let within : k < length v = omega (arith, fits.0, length-map v (row_version (unit_weight weight drift u us) u)) in
     let one : has_code is_sequence_header (get_or v k no_version).bytes 0 ≡ true =
     All-get_or (λ (version : UnitVersion). has_code is_sequence_header version.bytes 0 ≡ true) v k no_version within led in
     subst (λ (bytes : List ℕ). has_code is_sequence_header bytes 0 ≡ true) (chosen-is v k within) one

@@ -12,6 +12,7 @@ use Rattle.pes_units.specs.VideoHeader.{written_pes_header}
 use Rattle.pes_units.specs.PesPieces.{pes_pieces}
 use Rattle.version_table.specs.declared.table.Unit.{Unit as CodedUnit}
 use Rattle.version_table.specs.Choice.{HasVersion}
+use Rattle.program_reader.specs.Carry.{unit_weight}
 use Rattle.program_reader.specs.declared.program.UnitSource.{UnitSource}
 use Rattle.version_maker.specs.declared.version.UnitVersion.{UnitVersion}
 use Rattle.version_source.specs.Pieces.{pes_packet, video_items}
@@ -74,14 +75,14 @@ chosen-some versions k within some =
     ap (λ (found : Option UnitVersion). option_map_or (λ (version : UnitVersion). version.bytes) found []) (slice_get-get_or versions k no_version within) in
     omega (arith, ap length chosen, All-get_or HasBytes versions k no_version within some)
 
-pub units-said : (weight : ℕ) (es : List ℕ) (units : List UnitSource) (versions : List (List UnitVersion)) (choice : List ℕ) (more : List CodedUnit) → All (IsUnitOf es) units
-    → HaveBytes versions → AllZip HasVersion (unit_rows weight units versions ++ more) choice → All CanBeSaid (sent_units units versions choice)
-units-said weight es [] versions choice more are some fits = All-nil CanBeSaid
-units-said weight es (u ∷ us) [] choice more are some fits = All-nil CanBeSaid
-units-said weight es (u ∷ us) (v ∷ vs) [] more are some fits = All-nil CanBeSaid
-units-said weight es (u ∷ us) (v ∷ vs) (k ∷ choice) more are some fits =
+pub units-said : (weight drift : ℕ) (es : List ℕ) (units : List UnitSource) (versions : List (List UnitVersion)) (choice : List ℕ) (more : List CodedUnit) → All (IsUnitOf es) units
+    → HaveBytes versions → AllZip HasVersion (unit_rows weight drift units versions ++ more) choice → All CanBeSaid (sent_units units versions choice)
+units-said weight drift es [] versions choice more are some fits = All-nil CanBeSaid
+units-said weight drift es (u ∷ us) [] choice more are some fits = All-nil CanBeSaid
+units-said weight drift es (u ∷ us) (v ∷ vs) [] more are some fits = All-nil CanBeSaid
+units-said weight drift es (u ∷ us) (v ∷ vs) (k ∷ choice) more are some fits =
     let is : IsUnitOf es u = All-head (IsUnitOf es) u us are in
-    let within : k < length v = omega (arith, fits.0, length-map v (row_version weight u)) in
+    let within : k < length v = omega (arith, fits.0, length-map v (row_version (unit_weight weight drift u us) u)) in
     All-cons CanBeSaid (record { times = u.times; bytes = chosen_bytes v k }) (sent_units us vs choice)
     (record { in_range = is.in_range; beside = is.beside; some = chosen-some v k within some.0 })
-    (units-said weight es us vs choice more (All-tail (IsUnitOf es) u us are) some.1 fits.1)
+    (units-said weight drift es us vs choice more (All-tail (IsUnitOf es) u us are) some.1 fits.1)

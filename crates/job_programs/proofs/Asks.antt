@@ -5,7 +5,6 @@ use Rattle.std.specs.Str.{bytes_eq}
 use Rattle.std.proofs.lemmas.List.{get_or-map, length-map}
 use Rattle.std.proofs.lemmas.Slice.Eq.{bytes_eq-Decides}
 use Rattle.shelf_io.specs.Asked.{AsksUpTo}
-use Rattle.shelf_io.specs.Causes.{ReadCauses}
 use Rattle.shelf_io.specs.Counts.{ShelfCounts}
 use Rattle.job_report.specs.declared.job.ProgramJob.{ProgramJob}
 use Rattle.program_reader.specs.declared.limits.TheConstants.{FILE_BYTES_MOST}

@@ -1,5 +1,5 @@
 -- Programs behind others by sums, and by the lists before them, as the definitions of a job have them.
-use Rattle.std.proofs.Common.{◌≡◌, ℕ, ◌+◌, ◌<◌, ◌≤◌, List, [], ◌∷◌, ◌++◌, length, All, sym, subst, append_assoc, arith}
+use Rattle.std.proofs.Common.{ℕ, ◌≤◌, List, [], ◌∷◌, ◌++◌, length, All, sym, subst, append_assoc, arith}
 use Rattle.std.proofs.lemmas.List.{append-nil}
 use Rattle.std.proofs.lemmas.List.Elements.{All-nil, All-cons, All-head, All-tail}
 use Rattle.std.proofs.lemmas.List.Sums.{sum_by-append, sum_by-cons, sum_by_push}
@@ -10,7 +10,7 @@ use Rattle.program_reader.specs.declared.program_fault.SourceKind.{SourceKind}
 use Rattle.job_programs.specs.Programs.{AreNextPrograms, IsNextProgram, IsNextRefused, IsWithinTime, bytes_of_files, units_of_programs}
 use Rattle.job_programs.specs.Programs as public
 use Rattle.job_programs.specs.Private.Behind as behind
-use Rattle.job_programs.specs.Private.Behind.{AreProgramsOf, HoldPrograms, IsProgramBehind, IsRefusedBehind, KeepsTime}
+use Rattle.job_programs.specs.Private.Behind.{AreProgramsOf, HoldPrograms, IsProgramBehind, IsRefusedBehind, KeepsTime, job_keeps}
 
 -- ---- times
 
@@ -30,34 +30,36 @@ kept slot program is = record {
 -- ---- one program
 
 pub program-of : (slot start : ℕ) (contents : List (List ℕ)) (programs : List Program) (job : ProgramJob) (content : List ℕ) (program : Program)
-    → IsProgramBehind slot start (bytes_of_files contents) (units_of_programs programs) job.program job.drop.items content program
+    → IsProgramBehind slot start (bytes_of_files contents) (units_of_programs programs) job.program job.drop.items (job_keeps job) content program
     → IsNextProgram slot start contents programs job content program
 program-of slot start contents programs job content program is =
-    record { few_bytes = is.few_bytes; holds = is.holds; few_units = is.few_units; within = keeps slot program is.within }
+    record { few_bytes = is.few_bytes; holds = is.holds; few_units = is.few_units; within = keeps slot program is.within; share = is.near }
 
 pub behind-of : (slot start : ℕ) (contents : List (List ℕ)) (programs : List Program) (job : ProgramJob) (content : List ℕ) (program : Program)
     → IsNextProgram slot start contents programs job content program
-    → IsProgramBehind slot start (bytes_of_files contents) (units_of_programs programs) job.program job.drop.items content program
+    → IsProgramBehind slot start (bytes_of_files contents) (units_of_programs programs) job.program job.drop.items (job_keeps job) content program
 behind-of slot start contents programs job content program is =
-    record { few_bytes = is.few_bytes; holds = is.holds; few_units = is.few_units; within = kept slot program is.within }
+    record { few_bytes = is.few_bytes; holds = is.holds; few_units = is.few_units; within = kept slot program is.within; near = is.share }
 
 pub refused-of : (slot start : ℕ) (contents : List (List ℕ)) (programs : List Program) (job : ProgramJob) (content : List ℕ) (kind : SourceKind) (at : ℕ)
-    → IsRefusedBehind slot start (bytes_of_files contents) (units_of_programs programs) job.program job.drop.items content kind at
+    → IsRefusedBehind slot start (bytes_of_files contents) (units_of_programs programs) job.program job.drop.items (job_keeps job) content kind at
     → IsNextRefused slot start contents programs job content kind at
 refused-of slot start contents programs job content kind at (behind.many_bytes many k a) = public.many_bytes many k a
 refused-of slot start contents programs job content kind at (behind.file few bad) = public.file few bad
 refused-of slot start contents programs job content kind at (behind.many_units program few holds many k a) = public.many_units program few holds many k a
 refused-of slot start contents programs job content kind at (behind.late program few holds past k a) =
     public.late program few holds (λ is. past (kept slot program is)) k a
+refused-of slot start contents programs job content kind at (behind.far program few holds past k a) = public.large program few holds past k a
 
 pub refused-behind : (slot start : ℕ) (contents : List (List ℕ)) (programs : List Program) (job : ProgramJob) (content : List ℕ) (kind : SourceKind) (at : ℕ)
     → IsNextRefused slot start contents programs job content kind at
-    → IsRefusedBehind slot start (bytes_of_files contents) (units_of_programs programs) job.program job.drop.items content kind at
+    → IsRefusedBehind slot start (bytes_of_files contents) (units_of_programs programs) job.program job.drop.items (job_keeps job) content kind at
 refused-behind slot start contents programs job content kind at (public.many_bytes many k a) = behind.many_bytes many k a
 refused-behind slot start contents programs job content kind at (public.file few bad) = behind.file few bad
 refused-behind slot start contents programs job content kind at (public.many_units program few holds many k a) = behind.many_units program few holds many k a
 refused-behind slot start contents programs job content kind at (public.late program few holds past k a) =
     behind.late program few holds (λ is. past (keeps slot program is)) k a
+refused-behind slot start contents programs job content kind at (public.large program few holds past k a) = behind.far program few holds past k a
 
 -- ---- all programs
 
@@ -72,9 +74,10 @@ to-next slot start (j ∷ js) (c ∷ cs) [] hold read before few_bytes few_units
 to-next slot start (j ∷ js) (c ∷ cs) (p ∷ ps) hold read before few_bytes few_units within = (
   record {
     few_bytes = omega (arith, few_bytes, sum_by-append length read (c ∷ cs), sum_by-cons length c cs);
-    holds = hold.0;
+    holds = hold.0.holds;
     few_units = omega (arith, few_units, sum_by-append (λ (program : Program). length program.units) before (p ∷ ps), sum_by-cons (λ (program : Program). length program.units) p ps);
     within = keeps slot p (All-head (KeepsTime slot) p ps within);
+    share = hold.0.near;
   },
   to-next slot start js cs ps hold.1 (read ++ c ∷ []) (before ++ p ∷ [])
       (subst (λ (l : List (List ℕ)). bytes_of_files l ≤ FILE_BYTES_MOST) (sym (append_assoc read (c ∷ []) cs)) few_bytes)
@@ -111,7 +114,7 @@ from-next slot start (j ∷ js) (c ∷ cs) (p ∷ ps) read before few_bytes few_
     let units' = subst (λ (n : ℕ). n ≤ UNITS_MOST) (sym (sum_by_push (λ (program : Program). length program.units) before p)) next.0.few_units in
     let rest = from-next slot start js cs ps (read ++ c ∷ []) (before ++ p ∷ []) bytes' units' next.1 in
     record {
-      hold = (next.0.holds, rest.hold);
+      hold = (record { holds = next.0.holds; near = next.0.share }, rest.hold);
       bytes = subst (λ (l : List (List ℕ)). bytes_of_files l ≤ FILE_BYTES_MOST) (append_assoc read (c ∷ []) cs) rest.bytes;
       units = subst (λ (l : List Program). units_of_programs l ≤ UNITS_MOST) (append_assoc before (p ∷ []) ps) rest.units;
       times = All-cons (KeepsTime slot) p ps (kept slot p next.0.within) rest.times;

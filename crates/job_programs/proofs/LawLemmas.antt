@@ -12,7 +12,7 @@ use Rattle.program_reader.specs.declared.program_fault.SourceKind.{SourceKind}
 use Rattle.program_reader.specs.declared.program_fault.SourceKind.TheVariants.{ProgramLimit}
 use Rattle.program_reader.specs.Programs.{IsProgramOfFile, IsProgramRefused}
 use Rattle.job_programs.specs.Programs.{bytes_of_files, units_of_programs}
-use Rattle.job_programs.specs.Private.Behind.{AreProgramsOf, HoldPrograms, IsProgramBehind, IsRefusedBehind, KeepsTime, many_bytes, file, many_units, late}
+use Rattle.job_programs.specs.Private.Behind.{AreProgramsOf, HoldPrograms, HoldsKept, IsProgramBehind, IsRefusedBehind, KeepsTime, many_bytes, file, many_units, late, far, job_keeps}
 
 -- ---- one file
 
@@ -36,19 +36,22 @@ is-no-memory kind at e = cc
 -- ---- one program behind others
 
 -- a next program isn't refused
-pub not-both : OneProgram → NeverBoth → (slot start bytes units number : ℕ) (drop content : List ℕ) (program : Program) (kind : SourceKind) (at : ℕ)
-    → IsProgramBehind slot start bytes units number drop content program → IsRefusedBehind slot start bytes units number drop content kind at → ⊥
-not-both one never slot start bytes units number drop content program kind at next (many_bytes many _ _) = let few = next.few_bytes in omega arith
-not-both one never slot start bytes units number drop content program kind at next (file _ bad) =
+pub not-both : OneProgram → NeverBoth → (slot start bytes units number : ℕ) (drop : List ℕ) (keeps : Program → Type 0) (content : List ℕ) (program : Program) (kind : SourceKind) (at : ℕ)
+    → IsProgramBehind slot start bytes units number drop keeps content program → IsRefusedBehind slot start bytes units number drop keeps content kind at → ⊥
+not-both one never slot start bytes units number drop keeps content program kind at next (many_bytes many _ _) = let few = next.few_bytes in omega arith
+not-both one never slot start bytes units number drop keeps content program kind at next (file _ bad) =
     is-no-memory kind at (never content number drop start program (Refused kind at) next.holds bad)
-not-both one never slot start bytes units number drop content program kind at next (many_units other _ is many _ _) =
+not-both one never slot start bytes units number drop keeps content program kind at next (many_units other _ is many _ _) =
     let same : other ≡ program = one content number drop start other program is next.holds in
     let few = next.few_units in
     let many' : UNITS_MOST < units + length program.units = subst (λ (p : Program). UNITS_MOST < units + length p.units) same many in
     omega arith
-not-both one never slot start bytes units number drop content program kind at next (late other _ is past _ _) =
+not-both one never slot start bytes units number drop keeps content program kind at next (late other _ is past _ _) =
     let same : other ≡ program = one content number drop start other program is next.holds in
     past (subst (λ (p : Program). KeepsTime slot p) (sym same) next.within)
+not-both one never slot start bytes units number drop keeps content program kind at next (far other _ is past _ _) =
+    let same : other ≡ program = one content number drop start other program is next.holds in
+    past (subst keeps (sym same) next.near)
 
 -- what refuses a file by itself stands alone, and all else is the limit
 data Refusal (bytes number : ℕ) (drop content : List ℕ) (kind : SourceKind) (at : ℕ) : Type 0 where
@@ -57,13 +60,15 @@ data Refusal (bytes number : ℕ) (drop content : List ℕ) (kind : SourceKind) 
       → ((k : SourceKind) (a : ℕ) → bytes + length content ≤ FILE_BYTES_MOST → IsProgramRefused content number drop (Refused k a) → ⊥)
       → Refusal bytes number drop content kind at
 
-refusal : NeverBoth → (slot start bytes units number : ℕ) (drop content : List ℕ) (kind : SourceKind) (at : ℕ)
-    → IsRefusedBehind slot start bytes units number drop content kind at → Refusal bytes number drop content kind at
-refusal never slot start bytes units number drop content kind at (many_bytes many k a) = by_limit k a (λ k a few bad. omega arith)
-refusal never slot start bytes units number drop content kind at (file few bad) = by_file few bad
-refusal never slot start bytes units number drop content kind at (many_units program _ is _ k a) =
+refusal : NeverBoth → (slot start bytes units number : ℕ) (drop : List ℕ) (keeps : Program → Type 0) (content : List ℕ) (kind : SourceKind) (at : ℕ)
+    → IsRefusedBehind slot start bytes units number drop keeps content kind at → Refusal bytes number drop content kind at
+refusal never slot start bytes units number drop keeps content kind at (many_bytes many k a) = by_limit k a (λ k a few bad. omega arith)
+refusal never slot start bytes units number drop keeps content kind at (file few bad) = by_file few bad
+refusal never slot start bytes units number drop keeps content kind at (many_units program _ is _ k a) =
     by_limit k a (λ k a few bad. is-no-memory k a (never content number drop start program (Refused k a) is bad))
-refusal never slot start bytes units number drop content kind at (late program _ is _ k a) =
+refusal never slot start bytes units number drop keeps content kind at (late program _ is _ k a) =
+    by_limit k a (λ k a few bad. is-no-memory k a (never content number drop start program (Refused k a) is bad))
+refusal never slot start bytes units number drop keeps content kind at (far program _ is _ k a) =
     by_limit k a (λ k a few bad. is-no-memory k a (never content number drop start program (Refused k a) is bad))
 
 same-refusal : OneRefusal → (bytes number : ℕ) (drop content : List ℕ) (kind kind' : SourceKind) (at at' : ℕ)
@@ -77,12 +82,12 @@ same-refusal one bytes number drop content kind kind' at at' (by_limit _ _ none)
 same-refusal one bytes number drop content kind kind' at at' (by_limit k a _) (by_limit k' a' _) = (k ∙ sym k', a ∙ sym a')
 
 -- a next program is refused for one thing
-pub one-refusal : OneRefusal → NeverBoth → (slot start bytes units number : ℕ) (drop content : List ℕ) (kind kind' : SourceKind) (at at' : ℕ)
-    → IsRefusedBehind slot start bytes units number drop content kind at → IsRefusedBehind slot start bytes units number drop content kind' at'
+pub one-refusal : OneRefusal → NeverBoth → (slot start bytes units number : ℕ) (drop : List ℕ) (keeps : Program → Type 0) (content : List ℕ) (kind kind' : SourceKind) (at at' : ℕ)
+    → IsRefusedBehind slot start bytes units number drop keeps content kind at → IsRefusedBehind slot start bytes units number drop keeps content kind' at'
     → (kind ≡ kind') × (at ≡ at')
-one-refusal one never slot start bytes units number drop content kind kind' at at' r r' =
+one-refusal one never slot start bytes units number drop keeps content kind kind' at at' r r' =
     same-refusal one bytes number drop content kind kind' at at'
-    (refusal never slot start bytes units number drop content kind at r) (refusal never slot start bytes units number drop content kind' at' r')
+    (refusal never slot start bytes units number drop keeps content kind at r) (refusal never slot start bytes units number drop keeps content kind' at' r')
 
 -- ---- lists
 
@@ -96,7 +101,7 @@ one-list one start (j ∷ js) [] ps qs hp hq = absurd hp
 one-list one start (j ∷ js) (c ∷ cs) [] qs hp hq = absurd hp
 one-list one start (j ∷ js) (c ∷ cs) (p ∷ ps) [] hp hq = absurd hq
 one-list one start (j ∷ js) (c ∷ cs) (p ∷ ps) (q ∷ qs) hp hq =
-    let head : p ≡ q = one c j.program j.drop.items start p q hp.0 hq.0 in
+    let head : p ≡ q = one c j.program j.drop.items start p q hp.0.holds hq.0.holds in
     let tail : ps ≡ qs = one-list one start js cs ps qs hp.1 hq.1 in
     cc
 
@@ -117,7 +122,7 @@ count-of start (j ∷ js) (c ∷ cs) (p ∷ ps) h = let rest = count-of start js
 through : OneProgram → (start : ℕ) (before : List ProgramJob) (read : List (List ℕ)) (ps : List Program) → HoldPrograms start before read ps
     → (job : ProgramJob) (after : List ProgramJob) (content : List ℕ) (further : List (List ℕ)) (programs : List Program)
     → HoldPrograms start (before ++ job ∷ after) (read ++ content ∷ further) programs
-    → (p : Program) × (more : List Program) × (programs ≡ ps ++ p ∷ more) × IsProgramOfFile content job.program job.drop.items start p
+    → (p : Program) × (more : List Program) × (programs ≡ ps ++ p ∷ more) × HoldsKept start job content p
 through one start [] [] [] h job after content further [] all = absurd all
 through one start [] [] [] h job after content further (p ∷ more) all = (p, more, refl, all.0)
 through one start [] [] (p ∷ ps) h job after content further programs all = absurd h
@@ -126,7 +131,7 @@ through one start (j ∷ js) [] ps h job after content further programs all = ab
 through one start (j ∷ js) (c ∷ cs) [] h job after content further programs all = absurd h
 through one start (j ∷ js) (c ∷ cs) (p ∷ ps) h job after content further [] all = absurd all
 through one start (j ∷ js) (c ∷ cs) (p ∷ ps) h job after content further (q ∷ qs) all =
-    let head : q ≡ p = one c j.program j.drop.items start q p all.0 h.0 in
+    let head : q ≡ p = one c j.program j.drop.items start q p all.0.holds h.0.holds in
     let rest = through one start js cs ps h.1 job after content further qs all.1 in
     let tail : qs ≡ ps ++ rest.0 ∷ rest.1 = rest.2 in
     (rest.0, rest.1, cc, rest.3)
@@ -142,7 +147,7 @@ sum-behind f xs x ys = omega (arith, sum_by-append f xs (x ∷ ys), sum_by-cons 
 pub next-in : OneProgram → (slot start : ℕ) (before : List ProgramJob) (read : List (List ℕ)) (ps : List Program) → HoldPrograms start before read ps
     → (job : ProgramJob) (after : List ProgramJob) (content : List ℕ) (further : List (List ℕ)) (programs : List Program)
     → AreProgramsOf slot start (before ++ job ∷ after) (read ++ content ∷ further) programs
-    → (p : Program) × IsProgramBehind slot start (bytes_of_files read) (units_of_programs ps) job.program job.drop.items content p
+    → (p : Program) × IsProgramBehind slot start (bytes_of_files read) (units_of_programs ps) job.program job.drop.items (job_keeps job) content p
 next-in one slot start before read ps h job after content further programs are =
     let found = through one start before read ps h job after content further programs are.hold in
     let is : programs ≡ ps ++ found.0 ∷ found.1 = found.2 in
@@ -151,8 +156,9 @@ next-in one slot start before read ps h job after content further programs are =
       found.0,
       record {
         few_bytes = let a = are.few_bytes in let b = sum-behind length read content further in omega arith;
-        holds = found.3;
+        holds = found.3.holds;
         few_units = let b = sum-behind (λ (p : Program). length p.units) ps found.0 found.1 in omega arith;
         within = all-at (KeepsTime slot) ps found.0 found.1 within;
+        near = found.3.near;
       },
     )

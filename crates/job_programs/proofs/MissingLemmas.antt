@@ -1,5 +1,5 @@
 -- A job whose next file isn't there has neither programs nor a first refusal.
-use Rattle.std.proofs.Common.{◌≡◌, ◌⊎◌, ℕ, ◌<◌, ◌≤◌, List, [], ◌∷◌, ◌++◌, length, Some, None, sym, ap, subst, ◌∙◌, append_assoc, inl, inr, arith}
+use Rattle.std.proofs.Common.{◌≡◌, ◌⊎◌, ℕ, ◌<◌, List, [], ◌∷◌, ◌++◌, length, Some, None, sym, ap, subst, ◌∙◌, append_assoc, inl, inr, arith}
 use Rattle.std.specs.FinMap.{get}
 use Rattle.std.proofs.lemmas.Bool.{cases_order}
 use Rattle.shelf_io.specs.Files.{Files}
@@ -9,7 +9,7 @@ use Rattle.program_reader.specs.declared.program.Program.{Program}
 use Rattle.job_programs.specs.declared.source_fault.SourceFault.{SourceFault}
 use Rattle.job_programs.specs.Programs.{bytes_of_files, units_of_programs}
 use Rattle.job_programs.specs.Told.{AreProgramsOn, HoldContents, IsMissingOn, IsRefusedOn}
-use Rattle.job_programs.specs.Private.Behind.{AreProgramsOf, HoldPrograms}
+use Rattle.job_programs.specs.Private.Behind.{AreProgramsOf, HoldPrograms, job_keeps}
 use Rattle.job_programs.proofs.Forms.{are-of}
 use Rattle.job_programs.proofs.LawLemmas.{OneProgram, NeverBoth, not-both, count-of, next-in}
 use Rattle.job_programs.proofs.FirstLemmas.{first-of, front-of, same-place, common, whole}
@@ -112,7 +112,7 @@ by-place one never files job number fault m r (inr (inr small)) =
     let are = subst (λ (js : List ProgramJob). AreProgramsOf job.slot job.start js s.contents s.programs) front.1 (are-of job.slot job.start s.before s.contents s.programs s.programs_are) in
     let both = subst (λ (cs : List (List ℕ)). AreProgramsOf job.slot job.start (f.before ++ f.refused ∷ front.0) cs s.programs) is are in
     let next = next-in one job.slot job.start f.before f.read f.programs f.programs_are.hold f.refused front.0 f.content same.behind' s.programs both in
-    not-both one never job.slot job.start (bytes_of_files f.read) (units_of_programs f.programs) f.refused.program f.refused.drop.items f.content next.0 fault.kind fault.at next.1 f.refusal
+    not-both one never job.slot job.start (bytes_of_files f.read) (units_of_programs f.programs) f.refused.program f.refused.drop.items (job_keeps f.refused) f.content next.0 fault.kind fault.at next.1 f.refusal
 
 pub missing-not-refused : OneProgram → NeverBoth → (files : Files) (job : Job) (number : ℕ) (fault : SourceFault) → IsMissingOn files job number → IsRefusedOn (Some files) job fault → ⊥
 missing-not-refused one never files job number fault m r =

@@ -1,3 +1,5 @@
+pub mod Distortions
+pub mod Share
 pub mod Programs
 pub mod Probe
 pub mod Sizes

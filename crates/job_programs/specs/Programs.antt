@@ -1,5 +1,5 @@
 -- The programs of a job, read from the contents of their files one after the other, and the first refusal among them (this project's).
-use Rattle.std.specs.Prelude.{◌≡◌, ℕ, ◌+◌, ◌*◌, ◌<◌, ◌≤◌, List, [], ◌∷◌, ◌++◌, length, All}
+use Rattle.std.specs.Prelude.{◌≡◌, ℕ, ◌+◌, ◌-◌, ◌*◌, ◌<◌, ◌≤◌, min, List, [], ◌∷◌, ◌++◌, length, All}
 use Rattle.std.specs.List.{sum_by}
 use Rattle.job_report.specs.declared.job.Job.{Job}
 use Rattle.job_report.specs.declared.job.ProgramJob.{ProgramJob}
@@ -9,6 +9,8 @@ use Rattle.program_reader.specs.declared.program_fault.ProgramFault.TheVariants.
 use Rattle.program_reader.specs.declared.program_fault.SourceKind.{SourceKind}
 use Rattle.program_reader.specs.declared.program_fault.SourceKind.TheVariants.{ProgramLimit}
 use Rattle.program_reader.specs.Programs.{IsProgramOfFile, IsProgramRefused}
+use Rattle.job_programs.specs.declared.limits.TheConstants.{TIMES_LIMIT}
+use Rattle.job_programs.specs.Share.{KeepsShare}
 use Rattle.job_programs.specs.declared.source_fault.SourceFault.{SourceFault}
 
 -- ---- limits that the programs of a job share
@@ -21,9 +23,9 @@ bytes_of_files contents = sum_by length contents
 abbrev pub units_of_programs : List Program → ℕ
 units_of_programs programs = sum_by (λ program. length program.units) programs
 
--- the last time, in ticks, that a stream of such slots reaches
+-- the last time, in ticks, that a stream of such slots reaches: that of the last slot, and less than a round of the clock
 abbrev pub last_time : (slot : ℕ) → ℕ
-last_time slot = TIME_SLOTS_MOST * slot
+last_time slot = min (TIME_SLOTS_MOST * slot) (TIMES_LIMIT - 1)
 
 -- no unit of a program is due, and no audio packet due or gone, past the last time
 pub record IsWithinTime (slot : ℕ) (program : Program) : Type 0 where
@@ -37,15 +39,17 @@ pub record IsWithinTime (slot : ℕ) (program : Program) : Type 0 where
 abbrev pub HoldsProgram : (start : ℕ) → ProgramJob → (content : List ℕ) → Program → Type 0
 HoldsProgram start job content program = IsProgramOfFile content job.program job.drop.items start program
 
--- The content of a file holds this program of a job, and with the files and programs before it the limits that they share are kept.
+-- The content of a file holds this program of a job, with the files and programs before it the limits that they share are kept, and it takes
+-- no more of a table than its share.
 pub record IsNextProgram (slot start : ℕ) (contents : List (List ℕ)) (programs : List Program) (job : ProgramJob) (content : List ℕ) (program : Program) : Type 0 where
   pub few_bytes : bytes_of_files contents + length content ≤ FILE_BYTES_MOST
   pub holds : HoldsProgram start job content program
   pub few_units : units_of_programs programs + length program.units ≤ UNITS_MOST
   pub within : IsWithinTime slot program
+  pub share : KeepsShare job.weight job.drift job.coarser.items program
 
 -- What refuses the next program of a job behind these files and programs, in this order: the bytes of the files together; what
--- refuses the file by itself; the units of the programs together, and a time past the last.
+-- refuses the file by itself; the units of the programs together, a time past the last, and more than its share of a table.
 pub data IsNextRefused (slot start : ℕ) (contents : List (List ℕ)) (programs : List Program) (job : ProgramJob) (content : List ℕ) (kind : SourceKind) (at : ℕ) : Type 0 where
   many_bytes : FILE_BYTES_MOST < bytes_of_files contents + length content → kind ≡ ProgramLimit → at ≡ 0
       → IsNextRefused slot start contents programs job content kind at
@@ -56,6 +60,9 @@ pub data IsNextRefused (slot start : ℕ) (contents : List (List ℕ)) (programs
       → IsNextRefused slot start contents programs job content kind at
   late : (program : Program) → bytes_of_files contents + length content ≤ FILE_BYTES_MOST → HoldsProgram start job content program
       → ¬ IsWithinTime slot program → kind ≡ ProgramLimit → at ≡ 0
+      → IsNextRefused slot start contents programs job content kind at
+  large : (program : Program) → bytes_of_files contents + length content ≤ FILE_BYTES_MOST → HoldsProgram start job content program
+      → ¬ KeepsShare job.weight job.drift job.coarser.items program → kind ≡ ProgramLimit → at ≡ 0
       → IsNextRefused slot start contents programs job content kind at
 
 -- ---- all programs

@@ -1,14 +1,17 @@
 //! The programs of a job are read from a shelf of files, or the first refusal among them is answered.
 //!
 //! `read_programs` reads each file, takes its program out of it and gives the file's bytes up, and tests the limits that the
-//! programs of a job share; `read_sized_programs` sizes all versions of their units on the way. `read_one` reads one file alone.
+//! programs of a job share and that of its distortions; `read_sized_programs` sizes all versions of their units on the way. `read_one` reads one file alone.
 //! Stands on `program_reader`, `job_report` and `shelf_io`.
 #![tactic(auto)]
 
+mod distortions;
 pub mod laws;
+pub mod limits;
 mod next;
 mod probe;
 mod read;
+mod share;
 mod source_fault;
 mod times;
 

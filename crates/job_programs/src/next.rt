@@ -1,15 +1,19 @@
 //! One program behind others: its file is read, and its program taken out of it.
 
 ghost use Rattle.std.specs.Prelude.{◌≡◌, ◌+◌, ◌≤◌, ◌<◌, true, length, IfOk, IfErr, IsErrAnd, MatchResult};
-ghost use Rattle.job_report.specs.declared.limits.TheConstants.{START_MOST};
+ghost use Rattle.job_report.specs.declared.limits.TheConstants.{DRIFT_MOST, START_MOST, WEIGHT_MOST};
 ghost use Rattle.shelf_io.specs.Asked.{AsksUpTo};
 ghost use Rattle.version_table.specs.declared.limits.TheConstants.{SLOT_MOST};
 ghost use Rattle.program_reader.specs.Programs.{IsProgramOfFile, IsProgramRefused};
 ghost use Rattle.program_reader.specs.Sizes.{AreProgramSizes};
+ghost use Rattle.job_programs.specs.declared.limits.TheConstants.{UNITS_OF_ANY_DISTORTION};
+ghost use Rattle.job_programs.specs.Share.{KeepsShare};
 ghost use Rattle.job_programs.specs.Told.{CountReads, EndsFailed, EndsMissing, ReadsEnd};
 ghost use Rattle.job_programs.specs.Private.Behind.{IsProgramBehind};
 ghost use Rattle.job_programs.specs.Private.Next.{IsContentFault, IsNextOn, HasNextCause, IsNextFault};
 
+use crate::limits::UNITS_OF_ANY_DISTORTION;
+use crate::share::keeps_share;
 use crate::source_fault::{ProgramsFault, SourceFault};
 use crate::times::is_within_time;
 use list_types::ListOf;
@@ -38,7 +42,10 @@ pub(crate) struct Wanted<'a> {
     pub bytes: usize,
     /// The units of the programs before it, together.
     pub units: usize,
-    /// True where the sizes of its units' versions are wanted, at these ratios in sixteenths.
+    /// What its distortions count, and how much more for each coded frame with a P picture behind.
+    pub weight: u8,
+    pub drift: u8,
+    /// True where the sizes of its units' versions are wanted, at these ratios in sixteenths; with a drift they are.
     pub is_sized: bool,
     pub coarser: &'a [u16],
 }
@@ -63,11 +70,14 @@ pub(crate) fn read_next<K: Shelf>(
     requires bytes { wanted.now.bytes ≤ FILE_BYTES_MOST }
     requires units { wanted.now.units ≤ UNITS_MOST }
     requires coarser { length wanted.now.coarser.now < VERSIONS_MOST }
+    requires weight { wanted.now.weight ≤ WEIGHT_MOST }
+    requires drift { wanted.now.drift ≤ DRIFT_MOST }
+    requires sized { 0 < wanted.now.drift → wanted.now.is_sized ≡ true }
     ensures next { IfOk result (λ next. IsNextOn (K.files shelf.old) wanted.now.file.now wanted.now.slot wanted.now.start wanted.now.bytes wanted.now.units
-        wanted.now.number wanted.now.drop.now next.size next.program) }
+        wanted.now.number wanted.now.drop.now (KeepsShare wanted.now.weight wanted.now.drift wanted.now.coarser.now) next.size next.program) }
     ensures sizes { IfOk result (λ next. wanted.now.is_sized ≡ true → AreProgramSizes next.program wanted.now.coarser.now next.sizes) }
     ensures cause { IfErr result (HasNextCause (K.files shelf.old) wanted.now.file.now wanted.now.slot wanted.now.start wanted.now.bytes wanted.now.units
-        wanted.now.number wanted.now.drop.now wanted.now.place (K.counts shelf.old) (K.counts shelf.new) (K.since_fault shelf.new)) }
+        wanted.now.number wanted.now.drop.now (KeepsShare wanted.now.weight wanted.now.drift wanted.now.coarser.now) wanted.now.place (K.counts shelf.old) (K.counts shelf.new) (K.since_fault shelf.new)) }
 
     ensures files { K.files shelf.new ≡ K.files shelf.old }
     ensures asked { AsksUpTo wanted.now.file.now (FILE_BYTES_MOST + 1) (K.asked shelf.old) (K.asked shelf.new) }
@@ -94,11 +104,14 @@ fn from_content(
     requires bytes { wanted.now.bytes ≤ FILE_BYTES_MOST }
     requires units { wanted.now.units ≤ UNITS_MOST }
     requires coarser { length wanted.now.coarser.now < VERSIONS_MOST }
+    requires weight { wanted.now.weight ≤ WEIGHT_MOST }
+    requires drift { wanted.now.drift ≤ DRIFT_MOST }
+    requires sized { 0 < wanted.now.drift → wanted.now.is_sized ≡ true }
     ensures next { IfOk result (λ next. (next.size ≡ length content.now) × IsProgramBehind wanted.now.slot wanted.now.start wanted.now.bytes wanted.now.units
-        wanted.now.number wanted.now.drop.now content.now next.program) }
+        wanted.now.number wanted.now.drop.now (KeepsShare wanted.now.weight wanted.now.drift wanted.now.coarser.now) content.now next.program) }
     ensures sizes { IfOk result (λ next. wanted.now.is_sized ≡ true → AreProgramSizes next.program wanted.now.coarser.now next.sizes) }
     ensures fault { IfErr result (IsContentFault wanted.now.slot wanted.now.start wanted.now.bytes wanted.now.units
-        wanted.now.number wanted.now.drop.now wanted.now.place content.now) }
+        wanted.now.number wanted.now.drop.now (KeepsShare wanted.now.weight wanted.now.drift wanted.now.coarser.now) wanted.now.place content.now) }
 {
     match next_program(alloc, content, wanted) {
         Ok(sized) => Ok(NextProgram {
@@ -126,9 +139,12 @@ fn next_program(
     requires bytes { wanted.now.bytes ≤ FILE_BYTES_MOST }
     requires units { wanted.now.units ≤ UNITS_MOST }
     requires coarser { length wanted.now.coarser.now < VERSIONS_MOST }
+    requires weight { wanted.now.weight ≤ WEIGHT_MOST }
+    requires drift { wanted.now.drift ≤ DRIFT_MOST }
+    requires sized { 0 < wanted.now.drift → wanted.now.is_sized ≡ true }
     ensures program { MatchResult result
-        (λ next. IsProgramBehind wanted.now.slot wanted.now.start wanted.now.bytes wanted.now.units wanted.now.number wanted.now.drop.now content.now next.program)
-        (IsNextFault wanted.now.slot wanted.now.start wanted.now.bytes wanted.now.units wanted.now.number wanted.now.drop.now content.now) }
+        (λ next. IsProgramBehind wanted.now.slot wanted.now.start wanted.now.bytes wanted.now.units wanted.now.number wanted.now.drop.now (KeepsShare wanted.now.weight wanted.now.drift wanted.now.coarser.now) content.now next.program)
+        (IsNextFault wanted.now.slot wanted.now.start wanted.now.bytes wanted.now.units wanted.now.number wanted.now.drop.now (KeepsShare wanted.now.weight wanted.now.drift wanted.now.coarser.now) content.now) }
     ensures sizes { IfOk result (λ next. wanted.now.is_sized ≡ true → AreProgramSizes next.program wanted.now.coarser.now next.sizes) }
 {
     if content.len() > FILE_BYTES_MOST - wanted.bytes {
@@ -141,10 +157,13 @@ fn next_program(
     if !is_within_time(&sized.program, wanted.slot) {
         return Err(passes_limit());
     }
+    if !keeps_share(&sized, wanted) {
+        return Err(passes_limit());
+    }
     Ok(sized)
 }
 
-/// The program in the bytes of its file by itself, with the sizes of its units' versions where they are wanted.
+/// The program in the bytes of its file by itself, with the sizes of its units' versions where they are wanted, or where it has many units.
 fn wanted_program(
     alloc: Global,
     content: &[u8],
@@ -155,25 +174,51 @@ fn wanted_program(
     ensures program { MatchResult result (λ sized. IsProgramOfFile content.now wanted.now.number wanted.now.drop.now wanted.now.start sized.program)
         (IsProgramRefused content.now wanted.now.number wanted.now.drop.now) }
     ensures sizes { IfOk result (λ sized. wanted.now.is_sized ≡ true → AreProgramSizes sized.program wanted.now.coarser.now sized.sizes) }
+    ensures many { IfOk result (λ sized. UNITS_OF_ANY_DISTORTION < length sized.program.units → AreProgramSizes sized.program wanted.now.coarser.now sized.sizes) }
 {
     if wanted.is_sized {
-        return match read_sized_program(
-            alloc,
-            content,
-            wanted.number,
-            wanted.drop,
-            wanted.start,
-            wanted.coarser,
-        ) {
+        return match sized_program(alloc, content, wanted) {
             Ok(sized) => Ok(sized),
             Err(fault) => Err(fault),
         };
     }
-    match read_program(alloc, content, wanted.number, wanted.drop, wanted.start) {
-        Ok(program) => Ok(SizedProgram {
-            program,
-            sizes: ListOf::new(alloc),
-        }),
+    let program = match read_program(alloc, content, wanted.number, wanted.drop, wanted.start) {
+        Ok(program) => program,
+        Err(fault) => return Err(fault),
+    };
+    if program.units.len() > UNITS_OF_ANY_DISTORTION {
+        return match sized_program(alloc, content, wanted) {
+            Ok(sized) => Ok(sized),
+            Err(fault) => Err(fault),
+        };
+    }
+    Ok(SizedProgram {
+        program,
+        sizes: ListOf::new(alloc),
+    })
+}
+
+/// The program in the bytes of its file by itself, with the sizes of its units' versions.
+fn sized_program(
+    alloc: Global,
+    content: &[u8],
+    wanted: &Wanted<'_>,
+) -> Result<SizedProgram, ProgramFault>
+    requires start { wanted.now.start ≤ START_MOST }
+    requires coarser { length wanted.now.coarser.now < VERSIONS_MOST }
+    ensures program { MatchResult result (λ sized. IsProgramOfFile content.now wanted.now.number wanted.now.drop.now wanted.now.start sized.program)
+        (IsProgramRefused content.now wanted.now.number wanted.now.drop.now) }
+    ensures sizes { IfOk result (λ sized. AreProgramSizes sized.program wanted.now.coarser.now sized.sizes) }
+{
+    match read_sized_program(
+        alloc,
+        content,
+        wanted.number,
+        wanted.drop,
+        wanted.start,
+        wanted.coarser,
+    ) {
+        Ok(sized) => Ok(sized),
         Err(fault) => Err(fault),
     }
 }

@@ -1,17 +1,18 @@
-ghost use Rattle.std.specs.Prelude.{◌≡◌, ◌+◌, ◌≤◌, ◌↔◌, IsTrue, IfOk, IfErr, IsErrAnd};
+ghost use Rattle.std.specs.Prelude.{◌≡◌, ◌+◌, ◌≤◌, IfOk, IfErr, IsErrAnd};
 ghost use Rattle.job_report.specs.declared.limits.TheConstants.{START_MOST};
 ghost use Rattle.shelf_io.specs.Asked.{AsksUpTo};
 ghost use Rattle.version_table.specs.declared.limits.TheConstants.{SLOT_MOST};
 ghost use Rattle.program_reader.specs.declared.limits.TheConstants.{FILE_BYTES_MOST};
-ghost use Rattle.job_programs.specs.Probe.{audio_packets};
 ghost use Rattle.job_programs.specs.Told.{CountReads, EndsFailed, EndsMissing, HasProbeCause, IsProbedOn, ReadsEnd};
 
+use crate::limits::PROBED_AUDIO_PACKETS_MOST;
 use crate::next::{Wanted, read_next};
+use crate::share::has_few_packets;
 use crate::source_fault::{ProgramsFault, SourceFault};
-use program_reader::{AudioSource, Program, SourceKind};
+use job_report::limits::{COARSER_DEFAULT, DRIFT_DEFAULT, WEIGHT_DEFAULT};
+use program_reader::{Program, SourceKind};
 use shelf_io::Shelf;
 use std::alloc::Global;
-use version_table::limits::TEXT_AUDIO_PACKETS_MOST;
 
 /// The program of this number in a file, without the audio streams of the PIDs in `drop`, its earliest time due at `start`
 /// (in ticks), for a stream of such slots, as the one program of a job whose table's text has room for it; or why it isn't read, in
@@ -47,11 +48,13 @@ pub fn read_one<K: Shelf>(
             slot,
             bytes: 0,
             units: 0,
+            weight: WEIGHT_DEFAULT,
+            drift: DRIFT_DEFAULT,
             is_sized: false,
-            coarser: &[],
+            coarser: &COARSER_DEFAULT,
         },
     )?;
-    if !has_few_packets(next.program.audios.as_slice()) {
+    if !has_few_packets(next.program.audios.as_slice(), PROBED_AUDIO_PACKETS_MOST) {
         return Err(ProgramsFault::Refused(SourceFault {
             program: 0,
             kind: SourceKind::ProgramLimit,
@@ -59,18 +62,4 @@ pub fn read_one<K: Shelf>(
         }));
     }
     Ok(next.program)
-}
-
-/// True where a table's text has room for the packets of these audio streams.
-fn has_few_packets(audios: &[AudioSource]) -> bool
-    ensures { IsTrue result ↔ (audio_packets audios.now ≤ TEXT_AUDIO_PACKETS_MOST) }
-{
-    let mut room = TEXT_AUDIO_PACKETS_MOST;
-    for audio in audios {
-        if audio.pieces.len() > room {
-            return false;
-        }
-        room -= audio.pieces.len();
-    }
-    true
 }

@@ -1,4 +1,4 @@
-ghost use Rattle.std.specs.Prelude.{◌≡◌, ◌+◌, ◌≤◌, true, IfOk, IfErr, IsErrAnd};
+ghost use Rattle.std.specs.Prelude.{◌≡◌, ◌+◌, ◌≤◌, ◌<◌, true, IfOk, IfErr, IsErrAnd};
 ghost use Rattle.job_report.specs.ValidJob.{IsValidJob};
 ghost use Rattle.job_programs.specs.Sizes.{AreJobSizes};
 ghost use Rattle.job_programs.specs.Told.{AreProgramsOn, AsksForPrograms, CountReads, EndsFailed, EndsMissing, HasReadCause, ReadsEnd};
@@ -99,7 +99,9 @@ fn read_each<K: Shelf>(
                 slot: job.slot,
                 bytes,
                 units,
-                is_sized: are_sized,
+                weight: wanted.weight,
+                drift: wanted.drift,
+                is_sized: wants_sizes(are_sized, wanted.drift),
                 coarser: wanted.coarser.as_slice(),
             },
         )?;
@@ -110,4 +112,12 @@ fn read_each<K: Shelf>(
         place += 1;
     }
     Ok(SizedPrograms { programs, sizes })
+}
+
+/// True where the sizes of units are wanted, or a drift wants them.
+fn wants_sizes(are_sized: bool, drift: u8) -> bool
+    ensures asked { are_sized ≡ true → result ≡ true }
+    ensures drift { 0 < drift → result ≡ true }
+{
+    are_sized || drift > 0
 }

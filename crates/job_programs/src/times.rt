@@ -4,6 +4,7 @@ ghost use Rattle.std.specs.Prelude.{◌≡◌, ◌≤◌, ◌<◌, ◌^◌, ◌�
 ghost use Rattle.version_table.specs.declared.limits.TheConstants.{SLOT_MOST};
 ghost use Rattle.job_programs.specs.Private.Behind.{IsPieceBy, KeepsTime};
 
+use crate::limits::TIMES_LIMIT;
 use program_reader::limits::TIME_SLOTS_MOST;
 use program_reader::{AudioPiece, AudioSource, Program, UnitSource};
 
@@ -13,7 +14,7 @@ pub(crate) fn is_within_time(program: &Program, slot: u32) -> bool
     requires { slot ≤ SLOT_MOST }
     ensures { IsTrue result ↔ KeepsTime slot program.now }
 {
-    let last = TIME_SLOTS_MOST * slot as u64;
+    let last = (TIME_SLOTS_MOST * slot as u64).min(TIMES_LIMIT - 1);
     are_units_by(program.units.as_slice(), last) && are_audios_by(program.audios.as_slice(), last)
 }
 

@@ -146,6 +146,24 @@ empty_coarser : first_of (job ++ codes "coarser = []\n") ≡ Some None
 unfolding toml_on_literals refusals_of_field refusals_of_names place_of_program digits
 empty_coarser = refl
 
+-- a drift of 16, and of 17
+most_drift : first_of (job ++ codes "drift = 16\n") ≡ Some None
+unfolding toml_on_literals refusals_of_field refusals_of_names place_of_program digits
+most_drift = refl
+
+far_drift : first_of (job ++ codes "drift = 17\n") ≡ Some (Some (OfLimit (codes "program[0].drift")))
+unfolding toml_on_literals refusals_of_field refusals_of_names place_of_program digits
+far_drift = refl
+
+-- it goes before what is wrong with `drop`, and behind what is wrong with `coarser`
+drift_in_order : first_of (job ++ codes "drop = [-1]\ndrift = \"6\"\n") ≡ Some (Some (OfField (codes "program[0].drift")))
+unfolding toml_on_literals refusals_of_field refusals_of_names place_of_program digits
+drift_in_order = refl
+
+coarser_before_drift : first_of (job ++ codes "drift = \"6\"\ncoarser = [16]\n") ≡ Some (Some (OfLimit (codes "program[0].coarser")))
+unfolding toml_on_literals refusals_of_field refusals_of_names place_of_program digits
+coarser_before_drift = refl
+
 -- PIDs in any order
 falling_pids : first_of (job ++ codes "drop = [8191, 0, 0]\n") ≡ Some None
 unfolding toml_on_literals refusals_of_field refusals_of_names place_of_program digits
@@ -218,7 +236,7 @@ unfolding toml_on_literals
 stated_text = refl
 
 abbrev stated_program : ProgramJob
-stated_program = record { file = codes "a.ts"; program = 1; number = 7; weight = 1; coarser = record { items = 17 ∷ [] }; drop = record { items = [] } }
+stated_program = record { file = codes "a.ts"; program = 1; number = 7; weight = 1; coarser = record { items = 17 ∷ [] }; drift = 0; drop = record { items = [] } }
 
 -- and the job that it states
 stated_job : IsJobOf document (record { slot = 4000; start = 13500000; stream_id = 1; nodes = 1000; evaluations = 1000; programs = stated_program ∷ [] })
@@ -228,7 +246,7 @@ stated_job = record {
   stream_id = refl;
   nodes = refl;
   evaluations = refl;
-  programs = (record { file = refl; program = refl; number = refl; weight = refl; coarser = refl; drop = refl }, tt);
+  programs = (record { file = refl; program = refl; number = refl; weight = refl; coarser = refl; drift = refl; drop = refl }, tt);
 }
 
 -- the file of the second program is the third one that the command names

@@ -38,13 +38,14 @@ one_text s t e = ap text_of e
 -- ---- one program and one job
 
 same_program : (p q : ProgramJob) → p.file ≡ q.file → p.program ≡ q.program → p.number ≡ q.number → p.weight ≡ q.weight
-    → p.coarser.items ≡ q.coarser.items → p.drop.items ≡ q.drop.items → p ≡ q
-same_program p q file program number weight coarser drop = λ i. record {
+    → p.coarser.items ≡ q.coarser.items → p.drift ≡ q.drift → p.drop.items ≡ q.drop.items → p ≡ q
+same_program p q file program number weight coarser drift drop = λ i. record {
   file = file i;
   program = program i;
   number = number i;
   weight = weight i;
   coarser = record { items = coarser i };
+  drift = drift i;
   drop = record { items = drop i };
 }
 
@@ -55,6 +56,7 @@ one_program stated p q a b = same_program p q
     (one_stated _ _ a.number b.number)
     (one_number _ _ (sym a.weight ∙ b.weight))
     (one_array _ _ (sym a.coarser ∙ b.coarser))
+    (one_number _ _ (sym a.drift ∙ b.drift))
     (one_array _ _ (sym a.drop ∙ b.drop))
 
 one_programs : (tables : List Members) (ps qs : List ProgramJob) → AreProgramsOf tables ps → AreProgramsOf tables qs → ps ≡ qs

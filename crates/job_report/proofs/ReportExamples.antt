@@ -1,8 +1,10 @@
 -- Worked examples of report lines, computed from the definitions.
-use Rattle.std.proofs.Common.{◌≡◌, [], ◌∷◌, true, false, codes, refl, pos, negsuc}
+use Rattle.std.proofs.Common.{◌≡◌, [], ◌∷◌, true, false, Some, None, codes, refl, pos, negsuc}
 use Rattle.std.specs.Fmt.{digits}
 use Rattle.serde_json.proofs.OnLiterals.{serde_json_on_literals}
 use Rattle.job_report.specs.declared.report.ProgramReport.{ProgramReport}
+use Rattle.job_report.specs.declared.report.SlotMiss.{SlotMiss}
+use Rattle.job_report.specs.declared.report.SlotVerdict.{SlotVerdict}
 use Rattle.job_report.specs.declared.report.Report.TheVariants.{
   Plan,
   Run,
@@ -12,12 +14,15 @@ use Rattle.job_report.specs.declared.report.Report.TheVariants.{
   ScheduledVerdict,
   NoRoomVerdict,
   OpenVerdict,
+  AuditClean,
+  Fit,
   Usage,
   TableSyntax,
   TableLimit,
   JobSyntax,
   JobField,
   JobLimit,
+  ListSyntax,
   Source,
   Unschedulable,
   ReadFault,
@@ -25,6 +30,8 @@ use Rattle.job_report.specs.declared.report.Report.TheVariants.{
   CertSyntax,
   CertFault,
   Missing,
+  AuditFault,
+  NoFit,
 }
 use Rattle.job_report.specs.Report.{report_line}
 
@@ -124,3 +131,34 @@ run : report_line (Run 0 0 1 (program ∷ []) true 270) ≡ codes
     "{\"bound\":0,\"distortion\":0,\"nodes\":1,\"programs\":[{\"audio_bytes\":[11800],\"choice\":[0,0],\"descriptors_dropped\":0,\"not_carried\":[260],\"number\":1,\"pes_dropped\":0,\"rest\":0,\"units_dropped\":0}],\"search\":\"optimal\",\"slots\":270}\n"
 unfolding serde_json_on_literals digits
 run = refl
+
+audit_clean : report_line AuditClean ≡ codes "{\"audit\":\"clean\"}\n"
+unfolding serde_json_on_literals digits
+audit_clean = refl
+
+audit_fault : report_line (AuditFault 51136 (record { bytes = codes "pcr"; spare = [] }) 257) ≡ codes "{\"at\":51136,\"fault\":\"pcr\",\"pid\":257,\"reason\":\"audit\",\"status\":11}\n"
+unfolding serde_json_on_literals digits
+audit_fault = refl
+
+list_syntax : report_line (ListSyntax 2) ≡ codes "{\"line\":2,\"reason\":\"list\",\"status\":3}\n"
+unfolding serde_json_on_literals digits
+list_syntax = refl
+
+abbrev scheduled_in : SlotVerdict
+scheduled_in = record { slot = 4000; limit = false; miss = None }
+
+abbrev missed_in : SlotVerdict
+missed_in = record { slot = 4000; limit = false; miss = Some (record { due = 36936; packet_slot = 7; stream = 0; unit = 0 }) }
+
+-- a miss isn't told where the limit is passed
+abbrev limit_in : SlotVerdict
+limit_in = record { slot = 1016; limit = true; miss = Some (record { due = 36936; packet_slot = 7; stream = 0; unit = 0 }) }
+
+fit : report_line (Fit 4000 (scheduled_in ∷ [])) ≡ codes "{\"fit\":4000,\"slots\":[{\"slot\":4000,\"verdict\":\"scheduled\"}]}\n"
+unfolding serde_json_on_literals digits
+fit = refl
+
+no_fit : report_line (NoFit (limit_in ∷ missed_in ∷ [])) ≡ codes
+    "{\"reason\":\"no fit\",\"slots\":[{\"slot\":1016,\"verdict\":\"limit\"},{\"due\":36936,\"packet_slot\":7,\"slot\":4000,\"stream\":0,\"unit\":0,\"verdict\":\"missed\"}],\"status\":12}\n"
+unfolding serde_json_on_literals digits
+no_fit = refl

@@ -53,6 +53,8 @@ use Rattle.job_report.specs.declared.limits.TheConstants.{
   COARSER_DEFAULT,
   COARSENESS_LEAST,
   COARSENESS_MOST,
+  DRIFT_MOST,
+  DRIFT_DEFAULT,
   DROP_MOST,
   PID_MOST,
 }
@@ -105,21 +107,32 @@ pub record AreSixRight (a b c d e f : List FieldRefusal) : Type 0 where
   pub fifth : e ≡ []
   pub sixth : f ≡ []
 
-six_right : (a b c d e f : List FieldRefusal) → a ++ (b ++ (c ++ (d ++ (e ++ (f ++ []))))) ≡ [] → AreSixRight a b c d e f
-six_right a b c d e f h =
+-- nor with what stands behind them
+pub record AreSixRightBefore (a b c d e f rest : List FieldRefusal) : Type 0 where
+  pub six : AreSixRight a b c d e f
+  pub behind : rest ≡ []
+
+right_before : (a b c d e f rest : List FieldRefusal) → a ++ (b ++ (c ++ (d ++ (e ++ (f ++ rest))))) ≡ [] → AreSixRightBefore a b c d e f rest
+right_before a b c d e f rest h =
     let hb = none_behind a _ h in
     let hc = none_behind b _ hb in
     let hd = none_behind c _ hc in
     let he = none_behind d _ hd in
     let hf = none_behind e _ he in
     record {
-      first = none_before a _ h;
-      second = none_before b _ hb;
-      third = none_before c _ hc;
-      fourth = none_before d _ hd;
-      fifth = none_before e _ he;
-      sixth = none_before f _ hf;
+      six = record {
+        first = none_before a _ h;
+        second = none_before b _ hb;
+        third = none_before c _ hc;
+        fourth = none_before d _ hd;
+        fifth = none_before e _ he;
+        sixth = none_before f _ hf;
+      };
+      behind = none_behind f rest hf;
     }
+
+six_right : (a b c d e f : List FieldRefusal) → a ++ (b ++ (c ++ (d ++ (e ++ (f ++ []))))) ≡ [] → AreSixRight a b c d e f
+six_right a b c d e f h = (right_before a b c d e f [] h).six
 
 -- ---- one program
 
@@ -133,6 +146,9 @@ default_weight = record { of_type = refl; within = refl }
 default_coarser : IsRight (is_array_of is_integer) are_coarser (array_of COARSER_DEFAULT)
 default_coarser = record { of_type = refl; within = refl }
 
+default_drift : IsRight is_integer (is_between 0 DRIFT_MOST) (integer_of DRIFT_DEFAULT)
+default_drift = record { of_type = refl; within = refl }
+
 default_drop : IsRight (is_array_of is_integer) (are_numbers DROP_MOST 0 PID_MOST) (array_of [])
 default_drop = record { of_type = refl; within = refl }
 
@@ -141,17 +157,20 @@ pub valid_program : (place : List ℕ) (taken : List ℕ) (members : Members) (j
     → refusals_of_table place members (program_fields taken) ≡ [] → StatesProgram members job
     → IsValidProgramJob job × (list_any (λ n. n == job.number) taken ≡ false)
 valid_program place taken members job none is =
-    let six = six_right _ _ _ _ _ _ (none_before (flat_map (refusals_of_field place members) (program_fields taken)) (refusals_of_names place members (program_fields taken)) none) in
+    let all = right_before _ _ _ _ _ _ _ (none_before (flat_map (refusals_of_field place members) (program_fields taken)) (refusals_of_names place members (program_fields taken)) none) in
+    let six = all.six in
     let file = required_right place members (codes "file") is_text is_some_text (string job.file) six.first is.file in
     let program = required_right place members (codes "program") is_integer (is_between 1 NUMBER_MOST) (integer_of job.program) six.second is.program in
     let number = required_right place members (codes "number") is_integer (is_new_number taken) (integer_of job.number) six.third is.number in
     let weight = optional_right place members (codes "weight") is_integer (is_between 1 WEIGHT_MOST) (integer_of WEIGHT_DEFAULT) (integer_of job.weight) six.fourth is.weight default_weight in
     let coarser = optional_right place members (codes "coarser") (is_array_of is_integer) are_coarser (array_of COARSER_DEFAULT) (array_of job.coarser.items) six.fifth is.coarser default_coarser in
-    let drop = optional_right place members (codes "drop") (is_array_of is_integer) (are_numbers DROP_MOST 0 PID_MOST) (array_of []) (array_of job.drop.items) six.sixth is.drop default_drop in
+    let drift = optional_right place members (codes "drift") is_integer (is_between 0 DRIFT_MOST) (integer_of DRIFT_DEFAULT) (integer_of job.drift) six.sixth is.drift default_drift in
+    let drop = optional_right place members (codes "drop") (is_array_of is_integer) (are_numbers DROP_MOST 0 PID_MOST) (array_of []) (array_of job.drop.items) (none_before _ [] all.behind) is.drop default_drop in
     let new = and_parts (is_between 1 NUMBER_MOST (integer_of job.number)) (not (list_any (λ n. n == job.number) taken)) number.within in
     let program_between = between 1 NUMBER_MOST job.program program.within in
     let number_between = between 1 NUMBER_MOST job.number new.0 in
     let weight_between = between 1 WEIGHT_MOST job.weight weight.within in
+    let drift_between = between 0 DRIFT_MOST job.drift drift.within in
     let coarser_parts = coarser_right COARSER_MOST COARSENESS_LEAST COARSENESS_MOST job.coarser.items coarser.within in
     let coarser_numbers = numbers_right COARSER_MOST COARSENESS_LEAST COARSENESS_MOST job.coarser.items coarser_parts.0 in
     let dropped = numbers_right DROP_MOST 0 PID_MOST job.drop.items drop.within in (
@@ -166,6 +185,7 @@ valid_program place taken members job none is =
         few_coarser = coarser_numbers.0;
         coarser = coarser_numbers.1;
         coarser_rises = coarser_parts.1;
+        drift = drift_between.1;
         few_dropped = dropped.0;
         dropped = All-weaker (λ pid. (0 ≤ pid) × (pid ≤ PID_MOST)) (λ pid. pid ≤ PID_MOST) (λ pid h. h.1) job.drop.items dropped.1;
       },

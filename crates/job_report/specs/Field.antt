@@ -3,7 +3,7 @@ use Rattle.std.specs.Prelude.{ℕ, pos, ◌==◌, Bool, true, false, not, ◌&&�
 use Rattle.std.specs.List.{list_any, list_all}
 use Rattle.toml.specs.Data.{Data, string, integer, array, Items, no_items, item, Members, get_member, as_integer, as_str, as_table}
 use Rattle.version_table.specs.declared.limits.TheConstants.{SLOT_LEAST, SLOT_MOST, NODES_MOST, EVALUATIONS_MOST, PROGRAMS_MOST}
-use Rattle.job_report.specs.declared.limits.TheConstants.{START_MOST, STREAM_ID_MOST, NUMBER_MOST, WEIGHT_MOST, COARSER_MOST, COARSENESS_LEAST, COARSENESS_MOST, DROP_MOST, PID_MOST}
+use Rattle.job_report.specs.declared.limits.TheConstants.{START_MOST, STREAM_ID_MOST, NUMBER_MOST, WEIGHT_MOST, COARSER_MOST, COARSENESS_LEAST, COARSENESS_MOST, DRIFT_MOST, DROP_MOST, PID_MOST}
 
 -- ---- values
 
@@ -112,5 +112,6 @@ program_fields taken =
     ∷ required (codes "number") is_integer (is_new_number taken)
     ∷ optional_field (codes "weight") is_integer (is_between 1 WEIGHT_MOST)
     ∷ optional_field (codes "coarser") (is_array_of is_integer) are_coarser
+    ∷ optional_field (codes "drift") is_integer (is_between 0 DRIFT_MOST)
     ∷ optional_field (codes "drop") (is_array_of is_integer) (are_numbers DROP_MOST 0 PID_MOST)
     ∷ []

@@ -1,7 +1,7 @@
 -- The job that a document states: in each field what stands there, or the default where nothing does.
 use Rattle.std.specs.Prelude.{◌≡◌, ℕ, pos, List, [], ◌∷◌, codes, Some, unwrap_or}
 use Rattle.toml.specs.Data.{Data, string, integer, array, Items, no_items, item, Members, get_member}
-use Rattle.job_report.specs.declared.limits.TheConstants.{START_DEFAULT, STREAM_ID_DEFAULT, NODES_DEFAULT, EVALUATIONS_DEFAULT, WEIGHT_DEFAULT, COARSER_DEFAULT}
+use Rattle.job_report.specs.declared.limits.TheConstants.{START_DEFAULT, STREAM_ID_DEFAULT, NODES_DEFAULT, EVALUATIONS_DEFAULT, WEIGHT_DEFAULT, COARSER_DEFAULT, DRIFT_DEFAULT}
 use Rattle.job_report.specs.declared.job.ProgramJob.{ProgramJob}
 use Rattle.job_report.specs.declared.job.Job.{Job}
 use Rattle.job_report.specs.Refusal.{programs_in}
@@ -30,6 +30,7 @@ pub record StatesProgram (members : Members) (job : ProgramJob) : Type 0 where
   pub number : get_member (codes "number") members ≡ Some (integer_of job.number)
   pub weight : stated_or (integer_of WEIGHT_DEFAULT) (codes "weight") members ≡ integer_of job.weight
   pub coarser : stated_or (array_of COARSER_DEFAULT) (codes "coarser") members ≡ array_of job.coarser.items
+  pub drift : stated_or (integer_of DRIFT_DEFAULT) (codes "drift") members ≡ integer_of job.drift
   pub drop : stated_or (array_of []) (codes "drop") members ≡ array_of job.drop.items
 
 -- tables state these programs, one each, in order

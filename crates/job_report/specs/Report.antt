@@ -1,11 +1,13 @@
 -- Report lines: one compact JSON object, its keys in the order of their bytes, and a line end.
-use Rattle.std.specs.Prelude.{ℕ, Bool, if◌then◌else◌, List, [], ◌∷◌, ◌++◌, map, codes, ℤ}
+use Rattle.std.specs.Prelude.{ℕ, Bool, true, false, if◌then◌else◌, List, [], ◌∷◌, ◌++◌, map, codes, ℤ, Option, Some, None}
 use Rattle.serde_json.specs.Data.{Data, number, unsigned, string, array, object, Members, no_members, member}
 use Rattle.serde_json.specs.Find.{of_integer}
 use Rattle.serde_json.specs.View.{items_of}
 use Rattle.serde_json.specs.Written.{compact_text}
 use Rattle.job_report.specs.declared.report.ProgramReport.{ProgramReport}
 use Rattle.job_report.specs.declared.report.Report.{Report}
+use Rattle.job_report.specs.declared.report.SlotMiss.{SlotMiss}
+use Rattle.job_report.specs.declared.report.SlotVerdict.{SlotVerdict}
 use Rattle.job_report.specs.declared.report.Report.TheVariants.{
   Plan,
   Run,
@@ -15,12 +17,15 @@ use Rattle.job_report.specs.declared.report.Report.TheVariants.{
   ScheduledVerdict,
   NoRoomVerdict,
   OpenVerdict,
+  AuditClean,
+  Fit,
   Usage,
   TableSyntax,
   TableLimit,
   JobSyntax,
   JobField,
   JobLimit,
+  ListSyntax,
   Source,
   Unschedulable,
   ReadFault,
@@ -28,6 +33,8 @@ use Rattle.job_report.specs.declared.report.Report.TheVariants.{
   CertSyntax,
   CertFault,
   Missing,
+  AuditFault,
+  NoFit,
 }
 
 -- ---- values
@@ -87,6 +94,34 @@ program_object program = object_of (
     ∷ json_entry (codes "units_dropped") (json_number program.units_dropped)
     ∷ [])
 
+-- a slot with its first miss
+abbrev pub missed_object : (slot : ℕ) → SlotMiss → Data
+missed_object slot miss = object_of (
+    json_entry (codes "due") (json_number miss.due)
+    ∷ json_entry (codes "packet_slot") (json_number miss.packet_slot)
+    ∷ json_entry (codes "slot") (json_number slot)
+    ∷ json_entry (codes "stream") (json_number miss.stream)
+    ∷ json_entry (codes "unit") (json_number miss.unit)
+    ∷ json_entry (codes "verdict") (text_of (codes "missed"))
+    ∷ [])
+
+-- a slot with its verdict alone
+abbrev pub said_object : (slot : ℕ) → (verdict : List ℕ) → Data
+said_object slot verdict = object_of (
+    json_entry (codes "slot") (json_number slot)
+    ∷ json_entry (codes "verdict") (text_of verdict)
+    ∷ [])
+
+-- what is said of a slot: that a time passes its limit; else its first miss; else that the smallest choice is scheduled
+abbrev pub verdict_object : (slot : ℕ) → (limit : Bool) → (miss : Option SlotMiss) → Data
+verdict_object slot true miss = said_object slot (codes "limit")
+verdict_object slot false (Some miss) = missed_object slot miss
+verdict_object slot false None = said_object slot (codes "scheduled")
+
+-- the same, of its verdict
+abbrev pub slot_object : SlotVerdict → Data
+slot_object said = verdict_object said.slot said.limit said.miss
+
 -- the object of a report
 abbrev pub report_object : Report → Data
 report_object (Plan bound choice distortion nodes optimal) = object_of (
@@ -129,6 +164,13 @@ report_object (NoRoomVerdict due from needed room) = object_of (
 report_object OpenVerdict = object_of (
     json_entry (codes "verdict") (text_of (codes "open"))
     ∷ [])
+report_object AuditClean = object_of (
+    json_entry (codes "audit") (text_of (codes "clean"))
+    ∷ [])
+report_object (Fit fit slots) = object_of (
+    json_entry (codes "fit") (json_number fit)
+    ∷ json_entry (codes "slots") (array (items_of (map slot_object slots)))
+    ∷ [])
 report_object Usage = object_of (
     json_entry (codes "reason") (text_of (codes "usage"))
     ∷ json_entry (codes "status") (json_number 2)
@@ -155,6 +197,11 @@ report_object (JobField name) = object_of (
 report_object (JobLimit name) = object_of (
     json_entry (codes "name") (text_of name.bytes)
     ∷ json_entry (codes "reason") (text_of (codes "job limit"))
+    ∷ json_entry (codes "status") (json_number 3)
+    ∷ [])
+report_object (ListSyntax line) = object_of (
+    json_entry (codes "line") (json_number line)
+    ∷ json_entry (codes "reason") (text_of (codes "list"))
     ∷ json_entry (codes "status") (json_number 3)
     ∷ [])
 report_object (Source at kind program) = object_of (
@@ -197,6 +244,18 @@ report_object (Missing name) = object_of (
     json_entry (codes "name") (text_of name)
     ∷ json_entry (codes "reason") (text_of (codes "missing"))
     ∷ json_entry (codes "status") (json_number 9)
+    ∷ [])
+report_object (AuditFault at fault pid) = object_of (
+    json_entry (codes "at") (json_number at)
+    ∷ json_entry (codes "fault") (text_of fault.bytes)
+    ∷ json_entry (codes "pid") (json_number pid)
+    ∷ json_entry (codes "reason") (text_of (codes "audit"))
+    ∷ json_entry (codes "status") (json_number 11)
+    ∷ [])
+report_object (NoFit slots) = object_of (
+    json_entry (codes "reason") (text_of (codes "no fit"))
+    ∷ json_entry (codes "slots") (array (items_of (map slot_object slots)))
+    ∷ json_entry (codes "status") (json_number 12)
     ∷ [])
 
 -- the line of a report: its object as compact JSON, and a line end

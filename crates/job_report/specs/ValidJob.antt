@@ -3,7 +3,7 @@ use Rattle.std.specs.Prelude.{◌≢◌, ℕ, ◌≤◌, List, length, All}
 use Rattle.std.specs.List.{AllPairs}
 use Rattle.std.specs.List.Sorted.{IsStrictlyIncreasing}
 use Rattle.version_table.specs.declared.limits.TheConstants.{SLOT_LEAST, SLOT_MOST, NODES_MOST, EVALUATIONS_MOST, PROGRAMS_MOST}
-use Rattle.job_report.specs.declared.limits.TheConstants.{START_MOST, STREAM_ID_MOST, NUMBER_MOST, WEIGHT_MOST, COARSER_MOST, COARSENESS_LEAST, COARSENESS_MOST, DROP_MOST, PID_MOST}
+use Rattle.job_report.specs.declared.limits.TheConstants.{START_MOST, STREAM_ID_MOST, NUMBER_MOST, WEIGHT_MOST, COARSER_MOST, COARSENESS_LEAST, COARSENESS_MOST, DRIFT_MOST, DROP_MOST, PID_MOST}
 use Rattle.job_report.specs.declared.job.ProgramJob.{ProgramJob}
 use Rattle.job_report.specs.declared.job.Job.{Job}
 
@@ -23,6 +23,7 @@ pub record IsValidProgramJob (job : ProgramJob) : Type 0 where
   pub few_coarser : length job.coarser.items ≤ COARSER_MOST
   pub coarser : All IsCoarseness job.coarser.items
   pub coarser_rises : IsStrictlyIncreasing job.coarser.items
+  pub drift : job.drift ≤ DRIFT_MOST
   pub few_dropped : length job.drop.items ≤ DROP_MOST
   pub dropped : All (λ pid. pid ≤ PID_MOST) job.drop.items
 

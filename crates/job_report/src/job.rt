@@ -3,8 +3,8 @@ ghost use Rattle.job_report.specs.ValidJob.{IsValidProgramJob};
 
 use crate::fields::copied;
 use crate::limits::{
-    COARSER_DEFAULT, COARSER_MOST, DROP_MOST, EVALUATIONS_DEFAULT, NODES_DEFAULT, START_DEFAULT,
-    STREAM_ID_DEFAULT, WEIGHT_DEFAULT,
+    COARSER_DEFAULT, COARSER_MOST, DRIFT_DEFAULT, DROP_MOST, EVALUATIONS_DEFAULT, NODES_DEFAULT,
+    START_DEFAULT, STREAM_ID_DEFAULT, WEIGHT_DEFAULT,
 };
 use arrayvec::ArrayVec;
 use list_types::{ListOf, Text};
@@ -22,6 +22,9 @@ pub struct ProgramJob {
     pub weight: u8,
     /// How coarse its versions are, in sixteenths of the source's quantiser scale.
     pub coarser: ArrayVec<u16, COARSER_MOST>,
+    /// How much more the distortions of a picture count for each coded frame with a P picture that is predicted from it; 0 where
+    /// all count alike.
+    pub drift: u8,
     /// PIDs of audio streams that aren't carried.
     pub drop: ArrayVec<u16, DROP_MOST>,
 }
@@ -34,6 +37,7 @@ impl ProgramJob {
         ensures number { result.number ≡ number }
         ensures weight { result.weight ≡ WEIGHT_DEFAULT }
         ensures coarser { result.coarser.items ≡ COARSER_DEFAULT }
+        ensures drift { result.drift ≡ DRIFT_DEFAULT }
         ensures drop { result.drop.items ≡ [] }
 
         // The defaults are within the limits.
@@ -45,6 +49,7 @@ impl ProgramJob {
             number,
             weight: WEIGHT_DEFAULT,
             coarser: copied(&COARSER_DEFAULT),
+            drift: DRIFT_DEFAULT,
             drop: ArrayVec::new(),
         }
     }

@@ -8,6 +8,7 @@
 mod arrays;
 mod fault;
 mod fields;
+mod fit_objects;
 mod job;
 pub mod limits;
 mod line;
@@ -26,6 +27,6 @@ pub use job::{Job, ProgramJob};
 pub use line::report_text;
 pub use list_types::{ListOf, OutOfMemory, Text};
 pub use read::read_job;
-pub use report::{ProgramReport, Report};
+pub use report::{ProgramReport, Report, SlotMiss, SlotVerdict};
 pub use shared::shared_file;
 pub use version_table::Choice;

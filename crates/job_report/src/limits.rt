@@ -40,6 +40,11 @@ pub const COARSENESS_MOST: u16 = 1_792;
 /// How coarse the versions are where the text doesn't say.
 pub const COARSER_DEFAULT: [u16; 5] = [24, 32, 48, 80, 128];
 
+/// How much more the distortions of a picture count for each coded frame with a P picture behind it, at most.
+pub const DRIFT_MOST: u8 = 16;
+/// The same where the text doesn't say: distortions stay as they are.
+pub const DRIFT_DEFAULT: u8 = 0;
+
 /// PIDs that a job may drop of a program, at most.
 pub const DROP_MOST: usize = 64;
 /// A PID, at most (13 bits, 13818-1, 2.4.3.3).

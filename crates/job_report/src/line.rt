@@ -6,10 +6,11 @@ ghost use Rattle.serde_json.specs.View.{view};
 ghost use Rattle.serde_json.specs.Written.{compact_text, has_float};
 ghost use Rattle.job_report.specs.Report.{report_object, report_line};
 
+use crate::fit_objects::{fit_object, no_fit_object};
 use crate::objects::{
-    byte_object, check_object, gen_object, line_object, miss_object, named_object, no_room_object,
-    node_object, plan_object, probe_object, reason_object, run_object, source_object,
-    verdict_object,
+    audit_object, byte_object, check_object, clean_object, gen_object, line_object, miss_object,
+    named_object, no_room_object, node_object, plan_object, probe_object, reason_object,
+    run_object, source_object, verdict_object,
 };
 use crate::report::Report;
 use list_types::OutOfMemory;
@@ -77,12 +78,15 @@ fn value_of(alloc: Global, report: &Report) -> Result<Value, AllocError>
             room,
         } => no_room_object(alloc, *due, *from, *needed, *room),
         Report::OpenVerdict => verdict_object(alloc, "open"),
+        Report::AuditClean => clean_object(alloc),
+        Report::Fit { fit, slots } => fit_object(alloc, *fit, slots),
         Report::Usage => reason_object(alloc, "usage", 2),
-        Report::TableSyntax { line } => line_object(alloc, *line),
+        Report::TableSyntax { line } => line_object(alloc, *line, "table syntax"),
         Report::TableLimit { name } => named_object(alloc, name.as_str(), "table limit", 3),
         Report::JobSyntax => reason_object(alloc, "job syntax", 3),
         Report::JobField { name } => named_object(alloc, name.as_str(), "job field", 3),
         Report::JobLimit { name } => named_object(alloc, name.as_str(), "job limit", 3),
+        Report::ListSyntax { line } => line_object(alloc, *line, "list"),
         Report::Source { at, kind, program } => {
             source_object(alloc, *at, kind.as_str(), *program)
         }
@@ -97,5 +101,7 @@ fn value_of(alloc: Global, report: &Report) -> Result<Value, AllocError>
         Report::CertSyntax { byte } => byte_object(alloc, *byte),
         Report::CertFault { node, why } => node_object(alloc, *node, why.as_str()),
         Report::Missing { name } => named_object(alloc, name.as_str(), "missing", 9),
+        Report::AuditFault { at, fault, pid } => audit_object(alloc, *at, fault.as_str(), *pid),
+        Report::NoFit { slots } => no_fit_object(alloc, slots),
     }
 }

@@ -24,7 +24,9 @@ const JOB_NAMES: [&str; 6] = [
 ];
 
 /// The names of a program's fields.
-const PROGRAM_NAMES: [&str; 6] = ["file", "program", "number", "weight", "coarser", "drop"];
+const PROGRAM_NAMES: [&str; 7] = [
+    "file", "program", "number", "weight", "coarser", "drift", "drop",
+];
 
 /// What a refusal names where a table has a name that is none of these.
 const UNKNOWN: &str = "unknown";

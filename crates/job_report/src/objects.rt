@@ -4,7 +4,7 @@ ghost use Rattle.std.specs.Prelude.{◌≡◌, [], ◌∷◌, codes, IfOk};
 ghost use Rattle.serde_json.specs.View.{view};
 ghost use Rattle.job_report.specs.Report as spec;
 ghost use Rattle.job_report.specs.Report.{json_number, text_of, json_entry, object_of, search_of, report_object};
-ghost use Rattle.job_report.specs.declared.report.Report.TheVariants.{Plan, Run, Probe, Check, Gen, NoRoomVerdict, TableSyntax, Unschedulable, CertSyntax};
+ghost use Rattle.job_report.specs.declared.report.Report.TheVariants.{Plan, Run, Probe, Check, Gen, NoRoomVerdict, AuditClean, Unschedulable, CertSyntax};
 
 use crate::arrays::{counts, pids, programs, sizes, versions};
 use crate::report::ProgramReport;
@@ -113,6 +113,27 @@ pub(crate) fn no_room_object(
     })
 }
 
+/// A stream whose audit finds nothing.
+pub(crate) fn clean_object(alloc: Global) -> Result<Value, AllocError>
+    ensures { IfOk result (λ value. view value ≡ report_object AuditClean) }
+{
+    json!(in alloc; {"audit": "clean"})
+}
+
+/// The first finding of an audit.
+pub(crate) fn audit_object(
+    alloc: Global,
+    at: u64,
+    fault: &str,
+    pid: u16,
+) -> Result<Value, AllocError>
+    ensures { IfOk result (λ value. view value ≡ object_of (json_entry (codes "at") (json_number at) ∷ json_entry (codes "fault") (text_of fault.now)
+        ∷ json_entry (codes "pid") (json_number pid) ∷ json_entry (codes "reason") (text_of (codes "audit"))
+        ∷ json_entry (codes "status") (json_number 11) ∷ [])) }
+{
+    json!(in alloc; {"at": at, "fault": fault, "pid": pid, "reason": "audit", "status": 11})
+}
+
 /// A program that was made.
 pub(crate) fn gen_object(alloc: Global, bytes: u64, pictures: u32) -> Result<Value, AllocError>
     ensures { IfOk result (λ value. view value ≡ report_object (Gen bytes pictures)) }
@@ -142,11 +163,12 @@ pub(crate) fn named_object(
     json!(in alloc; {"name": name, "reason": reason, "status": status})
 }
 
-/// A line that no table text has there.
-pub(crate) fn line_object(alloc: Global, line: u64) -> Result<Value, AllocError>
-    ensures { IfOk result (λ value. view value ≡ report_object (TableSyntax line)) }
+/// A line that no text of a kind has there.
+pub(crate) fn line_object(alloc: Global, line: u64, reason: &str) -> Result<Value, AllocError>
+    ensures { IfOk result (λ value. view value ≡ object_of (json_entry (codes "line") (json_number line) ∷ json_entry (codes "reason") (text_of reason.now)
+        ∷ json_entry (codes "status") (json_number 3) ∷ [])) }
 {
-    json!(in alloc; {"line": line, "reason": "table syntax", "status": 3})
+    json!(in alloc; {"line": line, "reason": reason, "status": 3})
 }
 
 /// A program that is refused.

@@ -13,7 +13,9 @@ use crate::fields::{
     required_text,
 };
 use crate::job::ProgramJob;
-use crate::limits::{NUMBER_MOST, PID_MOST, WEIGHT_DEFAULT, WEIGHT_MOST};
+use crate::limits::{
+    DRIFT_DEFAULT, DRIFT_MOST, NUMBER_MOST, PID_MOST, WEIGHT_DEFAULT, WEIGHT_MOST,
+};
 use crate::names::check_program_names;
 use crate::place::Place;
 use list_types::{ListOf, Text};
@@ -58,6 +60,14 @@ fn read_program(alloc: Global, table: &Table, before: &[ProgramJob]) -> Result<P
         WEIGHT_MOST as u64,
     )?;
     let coarser = optional_coarser(table, place)?;
+    let drift = optional_number(
+        table,
+        place,
+        "drift",
+        DRIFT_DEFAULT as u64,
+        0,
+        DRIFT_MOST as u64,
+    )?;
     let drop = optional_numbers(table, place, "drop", &[], 0, PID_MOST)?;
     check_program_names(table, place)?;
     let mut file = Text::new(alloc);
@@ -68,6 +78,7 @@ fn read_program(alloc: Global, table: &Table, before: &[ProgramJob]) -> Result<P
         number,
         weight: weight as u8,
         coarser,
+        drift: drift as u8,
         drop,
     })
 }

@@ -24,6 +24,30 @@ pub struct ProgramReport {
     pub units_dropped: u32,
 }
 
+/// The first miss of the smallest choice in slots of some length.
+#[derive(Clone, Copy, Debug, PartialEq)]
+pub struct SlotMiss {
+    /// When the packet is due, in ticks.
+    pub due: u64,
+    /// The packet slot in which the miss is found, from 0.
+    pub packet_slot: u32,
+    /// The stream, over all programs in order.
+    pub stream: u32,
+    /// The unit, or the packet of an audio stream.
+    pub unit: u32,
+}
+
+/// What is said of slots of so many ticks.
+#[derive(Clone, Copy, Debug, PartialEq)]
+pub struct SlotVerdict {
+    /// Ticks of a packet slot.
+    pub slot: u32,
+    /// A time lies behind the last of such slots that a stream may have; nothing else is said then.
+    pub limit: bool,
+    /// The first miss; none where the smallest choice is scheduled.
+    pub miss: Option<SlotMiss>,
+}
+
 /// How a command ended, as it is reported. Places are in bytes, times in ticks of 1/27,000,000 s.
 #[derive(Drop)]
 pub enum Report {
@@ -69,6 +93,13 @@ pub enum Report {
     },
     /// Neither is shown of a table.
     OpenVerdict,
+    /// The audit of a stream finds nothing.
+    AuditClean,
+    /// The greatest slot in which a job fits, and what is said of each slot that was asked for.
+    Fit {
+        fit: u32,
+        slots: ListOf<SlotVerdict>,
+    },
     /// The words are no command.
     Usage,
     /// The first line, from 1, that no table text has there.
@@ -88,6 +119,10 @@ pub enum Report {
     /// The first limit that a job text breaks.
     JobLimit {
         name: ArrayString<NAME_MOST>,
+    },
+    /// The first line, from 1, that no list of slots has there; 0 where a list is too long.
+    ListSyntax {
+        line: u64,
     },
     /// A program is refused: the program in the job from 0, what is wrong, and at which byte.
     Source {
@@ -122,5 +157,15 @@ pub enum Report {
     /// A file that the command reads is not there.
     Missing {
         name: Text,
+    },
+    /// The first finding of the audit of a stream: what it is, on which PID and where.
+    AuditFault {
+        at: u64,
+        fault: ArrayString<NAME_MOST>,
+        pid: u16,
+    },
+    /// A job fits in none of the slots that were asked for.
+    NoFit {
+        slots: ListOf<SlotVerdict>,
     },
 }

@@ -1,8 +1,8 @@
 //! What is wrong with a job, and what is allowed there, for people. No contract rests on these words.
 
 use crate::limits::{
-    COARSENESS_LEAST, COARSENESS_MOST, COARSER_DEFAULT, COARSER_MOST, DROP_MOST,
-    EVALUATIONS_DEFAULT, JOB_TEXT_MOST, NAME_MOST, NODES_DEFAULT, NUMBER_MOST, PID_MOST,
+    COARSENESS_LEAST, COARSENESS_MOST, COARSER_DEFAULT, COARSER_MOST, DRIFT_DEFAULT, DRIFT_MOST,
+    DROP_MOST, EVALUATIONS_DEFAULT, JOB_TEXT_MOST, NAME_MOST, NODES_DEFAULT, NUMBER_MOST, PID_MOST,
     START_DEFAULT, START_MOST, STREAM_ID_DEFAULT, STREAM_ID_MOST, WEIGHT_DEFAULT, WEIGHT_MOST,
 };
 use arrayvec::ArrayString;
@@ -90,10 +90,14 @@ fn write_program_field<W: fmt::Write>(f: &mut fmt::Formatter<W>, field: &str) ->
             f,
             "at most {COARSER_MOST} whole numbers from {COARSENESS_LEAST} to {COARSENESS_MOST} that rise, by default {COARSER_DEFAULT:?}"
         ),
+        "drift" => write!(
+            f,
+            "a whole number from 0 to {DRIFT_MOST}, by default {DRIFT_DEFAULT}"
+        ),
         "drop" => write!(
             f,
             "at most {DROP_MOST} PIDs from 0 to {PID_MOST}, by default none"
         ),
-        _ => f.write_str("file, program, number, weight, coarser and drop"),
+        _ => f.write_str("file, program, number, weight, coarser, drift and drop"),
     }
 }

@@ -77,7 +77,7 @@ fn fields_of_a_job_are_tested_in_order(rt: HostRuntime) -> Result<(), Fail> {
 }
 
 /// What goes on behind a job with what must be there, and what reading both answers.
-const PROGRAM_FIELDS: [(&str, &str); 30] = [
+const PROGRAM_FIELDS: [(&str, &str); 36] = [
     ("", "job"),
     ("weight = 1\n", "job"),
     ("weight = 0\n", "limit program[0].weight"),
@@ -98,6 +98,12 @@ const PROGRAM_FIELDS: [(&str, &str); 30] = [
     ),
     ("coarser = [1, \"32\"]\n", "field program[0].coarser"),
     ("coarser = 24\n", "field program[0].coarser"),
+    ("drift = 0\n", "job"),
+    ("drift = 16\n", "job"),
+    ("drift = 17\n", "limit program[0].drift"),
+    ("drift = -1\n", "limit program[0].drift"),
+    ("drop = 33\ndrift = 6.0\n", "field program[0].drift"),
+    ("drift = 17\ncoarser = 24\n", "field program[0].coarser"),
     ("drop = [8191, 0, 0]\n", "job"),
     ("drop = [8192]\n", "limit program[0].drop"),
     ("drop = [-1]\n", "limit program[0].drop"),
@@ -196,11 +202,11 @@ fn numbers_of(job: &Job) -> [u64; 5] {
     ]
 }
 
-/// What a program states: its file, its numbers with its weight, and its lists.
+/// What a program states: its file, its numbers with its weight and its drift, and its lists.
 #[derive(Clone, Copy)]
 struct Stated<'a> {
     file: &'a str,
-    numbers: [u16; 3],
+    numbers: [u16; 4],
     coarser: &'a [u16],
     drop: &'a [u16],
 }
@@ -210,7 +216,12 @@ fn are_one(programs: &[ProgramJob], stated: &Stated<'_>) -> bool {
     match programs {
         [program] => {
             program.file.as_str() == stated.file
-                && [program.program, program.number, u16::from(program.weight)] == stated.numbers
+                && [
+                    program.program,
+                    program.number,
+                    u16::from(program.weight),
+                    u16::from(program.drift),
+                ] == stated.numbers
                 && program.coarser.as_slice() == stated.coarser
                 && program.drop.as_slice() == stated.drop
         }
@@ -223,7 +234,7 @@ fn what_is_not_stated_has_its_default(rt: HostRuntime) -> Result<(), Fail> {
     let job = read_job(rt.alloc(), LEAST.as_bytes())?;
     let stated = Stated {
         file: "a.ts",
-        numbers: [1, 1, 1],
+        numbers: [1, 1, 1, 0],
         coarser: &[24, 32, 48, 80, 128],
         drop: &[],
     };
@@ -235,11 +246,11 @@ fn what_is_not_stated_has_its_default(rt: HostRuntime) -> Result<(), Fail> {
 #[test]
 fn what_is_stated_is_read(rt: HostRuntime) -> Result<(), Fail> {
     let text = "evaluations = 0\nnodes = 7\nslot = 1016\nstart = 27_000_000\nstream_id = 0x1F\n\
-        program = [{file = 'b c', program = 2, number = 3, weight = 100, coarser = [17], drop = [33, 34]}]\n";
+        program = [{file = 'b c', program = 2, number = 3, weight = 100, coarser = [17], drift = 6, drop = [33, 34]}]\n";
     let job = read_job(rt.alloc(), text.as_bytes())?;
     let stated = Stated {
         file: "b c",
-        numbers: [2, 3, 100],
+        numbers: [2, 3, 100, 6],
         coarser: &[17],
         drop: &[33, 34],
     };
@@ -287,7 +298,7 @@ fn a_probed_program_has_the_defaults(rt: HostRuntime) -> Result<(), Fail> {
     let job = probed_job(rt.alloc())?;
     let stated = Stated {
         file: "a.ts",
-        numbers: [7, 9, 1],
+        numbers: [7, 9, 1, 0],
         coarser: &[24, 32, 48, 80, 128],
         drop: &[],
     };

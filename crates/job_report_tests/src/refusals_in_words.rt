@@ -26,7 +26,7 @@ const REFUSALS: [(&str, &str); 7] = [
     ),
     (
         "slot = 4000\nprogram = [{file = 'a', program = 1, number = 1, name = 'film'}]",
-        "job: program[0].unknown is no field; allowed: file, program, number, weight, coarser and drop",
+        "job: program[0].unknown is no field; allowed: file, program, number, weight, coarser, drift and drop",
     ),
 ];
 

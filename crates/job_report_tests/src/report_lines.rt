@@ -236,3 +236,78 @@ fn names_of_files_are_quoted(rt: HostRuntime) -> Result<(), Fail> {
     assert_eq!(rt; [missing, unread, unwritten], [true; 3]);
     Ok(())
 }
+
+#[test]
+fn audits_are_reported(rt: HostRuntime) -> Result<(), Fail> {
+    for (report, want) in [
+        (Report::AuditClean, "{\"audit\":\"clean\"}\n"),
+        (
+            Report::AuditFault {
+                at: 51_136,
+                fault: name_of("pcr"),
+                pid: 257,
+            },
+            "{\"at\":51136,\"fault\":\"pcr\",\"pid\":257,\"reason\":\"audit\",\"status\":11}\n",
+        ),
+    ] {
+        assert!(rt; is_line(rt.alloc(), report, want)?, "{want}");
+    }
+    Ok(())
+}
+
+fn is_line_of_fit(alloc: Global, slots: &[SlotVerdict], want: &str) -> Result<bool, OutOfMemory> {
+    let slots = list_of(alloc, slots)?;
+    is_line(alloc, Report::Fit { fit: 4_000, slots }, want)
+}
+
+fn is_line_of_no_fit(
+    alloc: Global,
+    slots: &[SlotVerdict],
+    want: &str,
+) -> Result<bool, OutOfMemory> {
+    let slots = list_of(alloc, slots)?;
+    is_line(alloc, Report::NoFit { slots }, want)
+}
+
+#[test]
+fn slots_are_reported(rt: HostRuntime) -> Result<(), Fail> {
+    let alloc = rt.alloc();
+    let miss = SlotMiss {
+        due: 36_936,
+        packet_slot: 7,
+        stream: 0,
+        unit: 0,
+    };
+    let limit = SlotVerdict {
+        slot: 1_016,
+        limit: true,
+        miss: None,
+    };
+    let scheduled = SlotVerdict {
+        slot: 4_000,
+        limit: false,
+        miss: None,
+    };
+    let missed = SlotVerdict {
+        slot: 4_001,
+        limit: false,
+        miss: Some(miss),
+    };
+    let fit = is_line_of_fit(
+        alloc,
+        &[scheduled],
+        "{\"fit\":4000,\"slots\":[{\"slot\":4000,\"verdict\":\"scheduled\"}]}\n",
+    )?;
+    let none = is_line_of_no_fit(
+        alloc,
+        &[limit, missed],
+        "{\"reason\":\"no fit\",\"slots\":[{\"slot\":1016,\"verdict\":\"limit\"},{\"due\":36936,\"packet_slot\":7,\"slot\":4001,\"stream\":0,\"unit\":0,\"verdict\":\"missed\"}],\"status\":12}\n",
+    )?;
+    let list = is_line(
+        alloc,
+        Report::ListSyntax { line: 2 },
+        "{\"line\":2,\"reason\":\"list\",\"status\":3}\n",
+    )?;
+    assert_eq!(rt; [fit, none, list], [true; 3]);
+    Ok(())
+}

@@ -10,6 +10,7 @@ use Rattle.version_table.specs.declared.table.ProgramRow.{ProgramRow}
 use Rattle.version_table.specs.declared.table.Table.{Table}
 use Rattle.version_table.specs.declared.table.Unit.{Unit as CodedUnit}
 use Rattle.version_table.specs.Choice.{Fits, HasVersion}
+use Rattle.program_reader.specs.Carry.{unit_weight}
 use Rattle.program_reader.specs.declared.program.Program.{Program}
 use Rattle.program_reader.specs.declared.program.UnitSource.{UnitSource}
 use Rattle.version_maker.specs.declared.version.UnitVersion.{UnitVersion}
@@ -54,25 +55,25 @@ versions-count before unit coarser versions are =
     let of = are.of_picture in ap length of.in_order ∙ ap suc (sym (zip-length _ coarser of.others of.coarser_ones))
 
 -- the rows of the units of a program are as many as these
-pub unit_rows-count : (weight : ℕ) (es coarser : List ℕ) (before : Option SeqState) (units : List UnitSource) (versions : List (List UnitVersion))
-    → AreVideoVersions es coarser before units versions → length (unit_rows weight units versions) ≡ length units
-unit_rows-count weight es coarser before [] [] are = refl
-unit_rows-count weight es coarser before [] (v ∷ vs) are = absurd are
-unit_rows-count weight es coarser before (u ∷ us) [] are = absurd are
-unit_rows-count weight es coarser before (u ∷ us) (v ∷ vs) (after, leaves, here, rest) = ap suc (unit_rows-count weight es coarser (Some after) us vs rest)
+pub unit_rows-count : (weight drift : ℕ) (es coarser : List ℕ) (before : Option SeqState) (units : List UnitSource) (versions : List (List UnitVersion))
+    → AreVideoVersions es coarser before units versions → length (unit_rows weight drift units versions) ≡ length units
+unit_rows-count weight drift es coarser before [] [] are = refl
+unit_rows-count weight drift es coarser before [] (v ∷ vs) are = absurd are
+unit_rows-count weight drift es coarser before (u ∷ us) [] are = absurd are
+unit_rows-count weight drift es coarser before (u ∷ us) (v ∷ vs) (after, leaves, here, rest) = ap suc (unit_rows-count weight drift es coarser (Some after) us vs rest)
 
-own-named : (weight : ℕ) (es coarser : List ℕ) (before : Option SeqState) (units : List UnitSource) (versions : List (List UnitVersion)) (own : List ℕ)
-    → AreVideoVersions es coarser before units versions → AllZip HasVersion (unit_rows weight units versions) own → All (λ index. index ≤ length coarser) own
-own-named weight es coarser before [] [] [] are fits = All-nil (λ index. index ≤ length coarser)
-own-named weight es coarser before [] [] (o ∷ os) are fits = absurd fits
-own-named weight es coarser before [] (v ∷ vs) own are fits = absurd are
-own-named weight es coarser before (u ∷ us) [] own are fits = absurd are
-own-named weight es coarser before (u ∷ us) (v ∷ vs) [] are fits = absurd fits
-own-named weight es coarser before (u ∷ us) (v ∷ vs) (o ∷ os) (after, leaves, here, rest) (has, more) =
+own-named : (weight drift : ℕ) (es coarser : List ℕ) (before : Option SeqState) (units : List UnitSource) (versions : List (List UnitVersion)) (own : List ℕ)
+    → AreVideoVersions es coarser before units versions → AllZip HasVersion (unit_rows weight drift units versions) own → All (λ index. index ≤ length coarser) own
+own-named weight drift es coarser before [] [] [] are fits = All-nil (λ index. index ≤ length coarser)
+own-named weight drift es coarser before [] [] (o ∷ os) are fits = absurd fits
+own-named weight drift es coarser before [] (v ∷ vs) own are fits = absurd are
+own-named weight drift es coarser before (u ∷ us) [] own are fits = absurd are
+own-named weight drift es coarser before (u ∷ us) (v ∷ vs) [] are fits = absurd fits
+own-named weight drift es coarser before (u ∷ us) (v ∷ vs) (o ∷ os) (after, leaves, here, rest) (has, more) =
     let count : length v ≡ suc (length coarser) = versions-count before (bytes_of_unit es u) coarser v here in
-    let same : length (map (row_version weight u) v) ≡ length v = length-map v (row_version weight u) in
+    let same : length (map (row_version (unit_weight weight drift u us) u) v) ≡ length v = length-map v (row_version (unit_weight weight drift u us) u) in
     let within : o ≤ length coarser = omega (arith, has, same, count) in
-    All-cons (λ index. index ≤ length coarser) o os within (own-named weight es coarser (Some after) us vs os rest more)
+    All-cons (λ index. index ≤ length coarser) o os within (own-named weight drift es coarser (Some after) us vs os rest more)
 
 -- ---- all programs
 
@@ -89,11 +90,11 @@ all-named [] (p ∷ ps) versions choice are fits = absurd are
 all-named (j ∷ js) [] versions choice are fits = absurd are
 all-named (j ∷ js) (p ∷ ps) [] choice are fits = absurd are
 all-named (j ∷ js) (p ∷ ps) (v ∷ vs) choice (here, rest) fits =
-    let split : IsSplit HasVersion (unit_rows j.weight p.units v) (all_units (program_rows js ps vs)) choice =
-    zip-split HasVersion (unit_rows j.weight p.units v) (all_units (program_rows js ps vs)) choice fits in
+    let split : IsSplit HasVersion (unit_rows j.weight j.drift p.units v) (all_units (program_rows js ps vs)) choice =
+    zip-split HasVersion (unit_rows j.weight j.drift p.units v) (all_units (program_rows js ps vs)) choice fits in
     let count : length split.own ≡ length p.units =
-    sym (zip-length HasVersion (unit_rows j.weight p.units v) split.own split.first) ∙ unit_rows-count j.weight p.video j.coarser.items None p.units v here in
-    (split.own, split.rest, split.parts, count, own-named j.weight p.video j.coarser.items None p.units v split.own here split.first, all-named js ps vs split.rest rest split.second)
+    sym (zip-length HasVersion (unit_rows j.weight j.drift p.units v) split.own split.first) ∙ unit_rows-count j.weight j.drift p.video j.coarser.items None p.units v here in
+    (split.own, split.rest, split.parts, count, own-named j.weight j.drift p.video j.coarser.items None p.units v split.own here split.first, all-named js ps vs split.rest rest split.second)
 
 -- a choice that fits the table of the programs of a job names versions of their units
 pub choice-names : (job : Job) (programs : List Program) (table : Table) (choice : List ℕ) → IsTableOf job programs table → Fits table choice

@@ -15,6 +15,7 @@ use Rattle.version_table.specs.declared.table.ProgramRow.{ProgramRow}
 use Rattle.version_table.specs.declared.table.Unit.{Unit as CodedUnit}
 use Rattle.version_table.specs.Choice.{HasVersion, version_at}
 use Rattle.slot_rule.specs.Sent.{choice_from, video_number}
+use Rattle.program_reader.specs.Carry.{unit_weight}
 use Rattle.program_reader.specs.declared.program.AudioPiece.{AudioPiece}
 use Rattle.program_reader.specs.declared.program.AudioSource.{AudioSource}
 use Rattle.program_reader.specs.declared.program.Program.{Program}
@@ -35,17 +36,17 @@ version-bytes weight unit (v ∷ vs) zero n below = omega (arith, below, length-
 version-bytes weight unit (v ∷ vs) (suc k) n below = version-bytes weight unit vs k n below
 
 -- a piece of a unit that a row has
-unit-has : (weight : ℕ) (units : List UnitSource) (versions : List (List UnitVersion)) (choice : List ℕ) (item piece : ℕ) (unit : CodedUnit) → length units ≤ length choice
-    → slice_get (unit_rows weight units versions) item ≡ Some unit → 184 * piece < (version_at unit (slice_index choice item)).bytes
+unit-has : (weight drift : ℕ) (units : List UnitSource) (versions : List (List UnitVersion)) (choice : List ℕ) (item piece : ℕ) (unit : CodedUnit) → length units ≤ length choice
+    → slice_get (unit_rows weight drift units versions) item ≡ Some unit → 184 * piece < (version_at unit (slice_index choice item)).bytes
     → piece < length (slice_index_or (video_items units versions choice) item [])
-unit-has weight [] versions choice item piece unit enough found within = absurd (none-some unit found)
-unit-has weight (u ∷ us) [] choice item piece unit enough found within = absurd (none-some unit found)
-unit-has weight (u ∷ us) (v ∷ vs) [] item piece unit enough found within = absurd (omega (arith, enough))
-unit-has weight (u ∷ us) (v ∷ vs) (c ∷ cs) zero piece unit enough found within =
-    let same : unit_row weight u v ≡ unit = same_Some (unit_row weight u v) unit found in
-    let own : 184 * piece < (version_at (unit_row weight u v) c).bytes = subst (λ (x : CodedUnit). 184 * piece < (version_at x c).bytes) (sym same) within in
-    piece-within (pes_packet u (chosen_bytes v c)) piece (version-bytes weight u v c (184 * piece) own)
-unit-has weight (u ∷ us) (v ∷ vs) (c ∷ cs) (suc item) piece unit enough found within = unit-has weight us vs cs item piece unit (omega (arith, enough)) found within
+unit-has weight drift [] versions choice item piece unit enough found within = absurd (none-some unit found)
+unit-has weight drift (u ∷ us) [] choice item piece unit enough found within = absurd (none-some unit found)
+unit-has weight drift (u ∷ us) (v ∷ vs) [] item piece unit enough found within = absurd (omega (arith, enough))
+unit-has weight drift (u ∷ us) (v ∷ vs) (c ∷ cs) zero piece unit enough found within =
+    let same : unit_row (unit_weight weight drift u us) u v ≡ unit = same_Some (unit_row (unit_weight weight drift u us) u v) unit found in
+    let own : 184 * piece < (version_at (unit_row (unit_weight weight drift u us) u v) c).bytes = subst (λ (x : CodedUnit). 184 * piece < (version_at x c).bytes) (sym same) within in
+    piece-within (pes_packet u (chosen_bytes v c)) piece (version-bytes (unit_weight weight drift u us) u v c (184 * piece) own)
+unit-has weight drift (u ∷ us) (v ∷ vs) (c ∷ cs) (suc item) piece unit enough found within = unit-has weight drift us vs cs item piece unit (omega (arith, enough)) found within
 
 -- ---- an audio stream
 
@@ -77,17 +78,17 @@ block-length : (program : Program) (versions : List (List UnitVersion)) (choice 
 block-length program versions choice = ap suc (length-map program.audios audio_items)
 
 -- the video of a program has the number behind those of the programs before it
-number-behind : (weight : ℕ) (p : Program) (v : List (List UnitVersion)) (choice : List ℕ) (rows : List ProgramRow) (program : ℕ)
-    → video_number (program_row weight p v ∷ rows) (suc program) ≡ length (video_items p.units v choice ∷ map audio_items p.audios) + video_number rows program
-number-behind weight p v choice rows program =
-    sum_by-cons (λ (row : ProgramRow). suc (length row.audios)) (program_row weight p v) (take program rows)
+number-behind : (weight drift : ℕ) (p : Program) (v : List (List UnitVersion)) (choice : List ℕ) (rows : List ProgramRow) (program : ℕ)
+    → video_number (program_row weight drift p v ∷ rows) (suc program) ≡ length (video_items p.units v choice ∷ map audio_items p.audios) + video_number rows program
+number-behind weight drift p v choice rows program =
+    sum_by-cons (λ (row : ProgramRow). suc (length row.audios)) (program_row weight drift p v) (take program rows)
     ∙ ap (λ (n : ℕ). n + video_number rows program) (ap suc (length-map p.audios audio_row) ∙ sym (block-length p v choice))
 
 -- the version numbers of a program stand behind those of the programs before it
-choice-behind : (weight : ℕ) (p : Program) (v : List (List UnitVersion)) (rows : List ProgramRow) (program : ℕ) (choice : List ℕ) → length (unit_rows weight p.units v) ≡ length p.units
-    → choice_from (program_row weight p v ∷ rows) (suc program) choice ≡ choice_from rows program (drop (length p.units) choice)
-choice-behind weight p v rows program choice count =
-    ap (λ (n : ℕ). drop n choice) (length-append (unit_rows weight p.units v) (all_units (take program rows)) ∙ ap (λ (n : ℕ). n + length (all_units (take program rows))) count)
+choice-behind : (weight drift : ℕ) (p : Program) (v : List (List UnitVersion)) (rows : List ProgramRow) (program : ℕ) (choice : List ℕ) → length (unit_rows weight drift p.units v) ≡ length p.units
+    → choice_from (program_row weight drift p v ∷ rows) (suc program) choice ≡ choice_from rows program (drop (length p.units) choice)
+choice-behind weight drift p v rows program choice count =
+    ap (λ (n : ℕ). drop n choice) (length-append (unit_rows weight drift p.units v) (all_units (take program rows)) ∙ ap (λ (n : ℕ). n + length (all_units (take program rows))) count)
     ∙ sym (drop-drop (length (all_units (take program rows))) (length p.units) choice)
 
 -- the version numbers behind those of a program fit the units behind
@@ -112,20 +113,20 @@ video-has [] programs versions choice program item piece row unit are fits found
 video-has (j ∷ js) [] versions choice program item piece row unit are fits found of within = absurd (none-some row found)
 video-has (j ∷ js) (p ∷ ps) [] choice program item piece row unit are fits found of within = absurd (none-some row found)
 video-has (j ∷ js) (p ∷ ps) (v ∷ vs) choice zero item piece row unit are fits found of within =
-    let same : program_row j.weight p v ≡ row = same_Some (program_row j.weight p v) row found in
-    let count : length (unit_rows j.weight p.units v) ≡ length p.units = unit_rows-count j.weight p.video j.coarser.items None p.units v are.0 in
-    let enough = fits-behind (unit_rows j.weight p.units v) (all_units (program_rows js ps vs)) choice (length p.units) count fits in
-    unit-has j.weight p.units v choice item piece unit enough.0 (subst (λ (r : ProgramRow). slice_get r.units item ≡ Some unit) (sym same) of) within
+    let same : program_row j.weight j.drift p v ≡ row = same_Some (program_row j.weight j.drift p v) row found in
+    let count : length (unit_rows j.weight j.drift p.units v) ≡ length p.units = unit_rows-count j.weight j.drift p.video j.coarser.items None p.units v are.0 in
+    let enough = fits-behind (unit_rows j.weight j.drift p.units v) (all_units (program_rows js ps vs)) choice (length p.units) count fits in
+    unit-has j.weight j.drift p.units v choice item piece unit enough.0 (subst (λ (r : ProgramRow). slice_get r.units item ≡ Some unit) (sym same) of) within
 video-has (j ∷ js) (p ∷ ps) (v ∷ vs) choice (suc program) item piece row unit are fits found of within =
-    let count : length (unit_rows j.weight p.units v) ≡ length p.units = unit_rows-count j.weight p.video j.coarser.items None p.units v are.0 in
+    let count : length (unit_rows j.weight j.drift p.units v) ≡ length p.units = unit_rows-count j.weight j.drift p.video j.coarser.items None p.units v are.0 in
     let rows = program_rows js ps vs in
     let later = drop (length p.units) choice in
-    let enough = fits-behind (unit_rows j.weight p.units v) (all_units rows) choice (length p.units) count fits in
+    let enough = fits-behind (unit_rows j.weight j.drift p.units v) (all_units rows) choice (length p.units) count fits in
     let there : 184 * piece < (version_at unit (slice_index (choice_from rows program later) item)).bytes =
-    subst (λ (c : List ℕ). 184 * piece < (version_at unit (slice_index c item)).bytes) (choice-behind j.weight p v rows program choice count) within in
+    subst (λ (c : List ℕ). 184 * piece < (version_at unit (slice_index c item)).bytes) (choice-behind j.weight j.drift p v rows program choice count) within in
     behind-block (video_items p.units v choice ∷ map audio_items p.audios) (stream_items ps vs later) (video_number rows program)
-    (video_number (program_row j.weight p v ∷ rows) (suc program)) item piece
-    (number-behind j.weight p v choice rows program) (video-has js ps vs later program item piece row unit are.1 enough.1 found of there)
+    (video_number (program_row j.weight j.drift p v ∷ rows) (suc program)) item piece
+    (number-behind j.weight j.drift p v choice rows program) (video-has js ps vs later program item piece row unit are.1 enough.1 found of there)
 
 -- and so is each audio packet
 pub audio-packet-has : (jobs : List ProgramJob) (programs : List Program) (versions : List (List (List UnitVersion))) (choice : List ℕ) (program stream audio item : ℕ) (row : ProgramRow)
@@ -136,7 +137,7 @@ audio-packet-has [] programs versions choice program stream audio item row packe
 audio-packet-has (j ∷ js) [] versions choice program stream audio item row packets packet found of is at = absurd (none-some row found)
 audio-packet-has (j ∷ js) (p ∷ ps) [] choice program stream audio item row packets packet found of is at = absurd (none-some row found)
 audio-packet-has (j ∷ js) (p ∷ ps) (v ∷ vs) choice zero stream audio item row packets packet found of is at =
-    let same : program_row j.weight p v ≡ row = same_Some (program_row j.weight p v) row found in
+    let same : program_row j.weight j.drift p v ≡ row = same_Some (program_row j.weight j.drift p v) row found in
     let place : suc audio ≡ stream = omega (arith, is) in
     subst (λ (n : ℕ). 0 < length (pieces_at (stream_items (p ∷ ps) (v ∷ vs) choice) n item)) place
     (audio-has p.audios (stream_items ps vs (drop (length p.units) choice)) audio item packets packet
@@ -144,6 +145,6 @@ audio-packet-has (j ∷ js) (p ∷ ps) (v ∷ vs) choice zero stream audio item 
 audio-packet-has (j ∷ js) (p ∷ ps) (v ∷ vs) choice (suc program) stream audio item row packets packet found of is at =
     let rows = program_rows js ps vs in
     let later = drop (length p.units) choice in
-    let number = number-behind j.weight p v choice rows program in
+    let number = number-behind j.weight j.drift p v choice rows program in
     behind-block (video_items p.units v choice ∷ map audio_items p.audios) (stream_items ps vs later) (video_number rows program + 1 + audio) stream item 0
     (omega (arith, is, number)) (audio-packet-has js ps vs later program (video_number rows program + 1 + audio) audio item row packets packet found of refl at)

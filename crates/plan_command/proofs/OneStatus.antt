@@ -10,7 +10,7 @@ use Rattle.slot_rule.specs.Schedule.{IsScheduled, IsFirstMiss}
 use Rattle.command_words.specs.declared.status.Status.{Status}
 use Rattle.command_words.specs.declared.status.Status.TheVariants as statuses
 use Rattle.command_words.specs.declared.status.JobRefusal.{JobRefusal}
-use Rattle.command_words.specs.declared.status.JobRefusal.TheVariants.{TableSyntax, TableLimit, JobSyntax, JobField, JobLimit}
+use Rattle.command_words.specs.declared.status.JobRefusal.TheVariants.{TableSyntax, TableLimit, JobSyntax, JobField, JobLimit, ListSyntax}
 use Rattle.command_words.specs.Status.{IsSameRefusal, IsSameStatus}
 use Rattle.plan_command.specs.PlanCommand.{HoldsTable, IsTableRefused, PlanCallsFor}
 
@@ -42,6 +42,7 @@ no_refusal reading text table (TableSyntax n) read refused =
 no_refusal reading text table JobSyntax read refused = absurd refused
 no_refusal reading text table (JobField name) read refused = absurd refused
 no_refusal reading text table (JobLimit name) read refused = absurd refused
+no_refusal reading text table (ListSyntax n) read refused = absurd refused
 no_refusal reading text table (TableLimit name) read refused =
     let same : Holds table ≡ RefusedFor refused.0 = reading text (Holds table) (RefusedFor refused.0) read refused.1 in
     cc
@@ -59,9 +60,11 @@ pub one_refusal : OneReading → (text : List ℕ) (a b : JobRefusal) → IsTabl
 one_refusal reading text JobSyntax other a b = absurd a
 one_refusal reading text (JobField name) other a b = absurd a
 one_refusal reading text (JobLimit name) other a b = absurd a
+one_refusal reading text (ListSyntax n) other a b = absurd a
 one_refusal reading text other JobSyntax a b = absurd b
 one_refusal reading text other (JobField name) a b = absurd b
 one_refusal reading text other (JobLimit name) a b = absurd b
+one_refusal reading text other (ListSyntax n) a b = absurd b
 one_refusal reading text (TableSyntax n) (TableSyntax m) a b =
     let same : RefusedAt n ≡ RefusedAt m = reading text (RefusedAt n) (RefusedAt m) a b in
     cc
@@ -119,6 +122,7 @@ plan_calls_for_one laws files name statuses.Usage t a b = absurd a
 plan_calls_for_one laws files name statuses.ReadFault t a b = absurd a
 plan_calls_for_one laws files name statuses.WriteFault t a b = absurd a
 plan_calls_for_one laws files name statuses.OutOfMemory t a b = absurd a
+plan_calls_for_one laws files name statuses.NoFit t a b = absurd a
 plan_calls_for_one laws files name (statuses.SourceRefused fault) t a b = absurd a
 plan_calls_for_one laws files name (statuses.CertRefused refusal) t a b = absurd a
 plan_calls_for_one laws files name s (statuses.SourceRefused fault) a b = absurd b
@@ -127,3 +131,4 @@ plan_calls_for_one laws files name s statuses.Usage a b = absurd b
 plan_calls_for_one laws files name s statuses.ReadFault a b = absurd b
 plan_calls_for_one laws files name s statuses.WriteFault a b = absurd b
 plan_calls_for_one laws files name s statuses.OutOfMemory a b = absurd b
+plan_calls_for_one laws files name s statuses.NoFit a b = absurd b

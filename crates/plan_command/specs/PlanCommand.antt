@@ -80,6 +80,7 @@ plan_task table certificate = record {
   calls_for = PlanCallsFor table;
   may_refuse = PlanMayRefuse;
   tells_work = TellsPlan table;
+  fits_none = λ told slots. ⊥;
   is_done = PlanDone table certificate;
   leaves = PlanLeaves table certificate;
   reads = λ told name limit. (name ≡ table) × (limit ≡ TABLE_TEXT_MOST);

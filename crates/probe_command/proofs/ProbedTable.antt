@@ -5,9 +5,11 @@ use Rattle.std.proofs.lemmas.List.{length-append, length-map}
 use Rattle.std.proofs.lemmas.List.Elements.{All-cons, All-nil}
 use Rattle.std.proofs.lemmas.List.Sums.{get_or-le-sum_by, sum_by-cons}
 use Rattle.bit_lists.specs.Fields.{AreBytes}
-use Rattle.job_programs.specs.Probe.{IsProbed, audio_packets}
+use Rattle.job_programs.specs.Probe.{IsProbed}
+use Rattle.job_programs.specs.Share.{KeepsShare, audio_packets}
+use Rattle.job_programs.specs.declared.limits.TheConstants.{PROBED_AUDIO_PACKETS_MOST}
 use Rattle.job_programs.specs.Programs.{IsWithinTime}
-use Rattle.job_report.specs.declared.limits.TheConstants.{COARSER_DEFAULT, COARSER_MOST, EVALUATIONS_DEFAULT, NODES_DEFAULT, PROBE_SLOT, START_DEFAULT, WEIGHT_DEFAULT, WEIGHT_MOST}
+use Rattle.job_report.specs.declared.limits.TheConstants.{COARSER_DEFAULT, COARSER_MOST, DRIFT_DEFAULT, EVALUATIONS_DEFAULT, NODES_DEFAULT, PROBE_SLOT, START_DEFAULT, WEIGHT_DEFAULT, WEIGHT_MOST}
 use Rattle.program_reader.specs.declared.program.AudioSource.{AudioSource}
 use Rattle.program_reader.specs.declared.program.Program.{Program}
 use Rattle.program_reader.specs.Programs.{IsProgramOfFile}
@@ -35,7 +37,7 @@ row_packets (audio ∷ audios) =
 -- the law that the row of a program has a place in a table
 abbrev pub RowsArePlaced : Type 0
 RowsArePlaced = (slot start number weight : ℕ) (content drop coarser : List ℕ) (program : Program) (row : ProgramRow) → weight ≤ WEIGHT_MOST → length coarser ≤ COARSER_MOST
-    → IsProgramOfFile content number drop start program → IsWithinTime slot program → AreBytes program.video → IsRowOf program coarser weight row
+    → IsProgramOfFile content number drop start program → IsWithinTime slot program → KeepsShare weight DRIFT_DEFAULT coarser program → AreBytes program.video → IsRowOf program coarser weight DRIFT_DEFAULT row
     → IsValidProgram slot row × (length row.units ≤ UNITS_MOST) × (length (flat_map (λ packets. packets) row.audios) < AUDIO_PACKETS_LIMIT)
     × (sum_by greatest_distortion row.units < DISTORTIONS_LIMIT)
 
@@ -44,14 +46,14 @@ abbrev pub table_of_row : ProgramRow → Table
 table_of_row row = record { slot = PROBE_SLOT; nodes = NODES_DEFAULT; evaluations = EVALUATIONS_DEFAULT; programs = row ∷ [] }
 
 -- is its table
-pub is_probed_table : (program : Program) (row : ProgramRow) → IsRowOf program COARSER_DEFAULT WEIGHT_DEFAULT row → IsProbedTable program (table_of_row row)
+pub is_probed_table : (program : Program) (row : ProgramRow) → IsRowOf program COARSER_DEFAULT WEIGHT_DEFAULT DRIFT_DEFAULT row → IsProbedTable program (table_of_row row)
 is_probed_table program row is = record { slot = refl; nodes = refl; evaluations = refl; row = row; is_row = is; alone = refl }
 
 -- and a text may hold it
 row_is_text : RowsArePlaced → (number : ℕ) (content : List ℕ) (program : Program) (row : ProgramRow) → IsProbed PROBE_SLOT START_DEFAULT number [] content program
-    → AreBytes program.video → IsRowOf program COARSER_DEFAULT WEIGHT_DEFAULT row → IsTextTable (table_of_row row)
+    → AreBytes program.video → IsRowOf program COARSER_DEFAULT WEIGHT_DEFAULT DRIFT_DEFAULT row → IsTextTable (table_of_row row)
 row_is_text law number content program row probed bytes is =
-    let placed = law PROBE_SLOT START_DEFAULT number WEIGHT_DEFAULT content [] COARSER_DEFAULT program row (omega arith) (omega arith) probed.is_program.holds probed.is_program.within bytes is in
+    let placed = law PROBE_SLOT START_DEFAULT number WEIGHT_DEFAULT content [] COARSER_DEFAULT program row (omega arith) (omega arith) probed.is_program.holds probed.is_program.within probed.is_program.share bytes is in
     let same : length (flat_map (λ (packets : List AudioPacket). packets) row.audios) ≡ audio_packets program.audios =
     ap (λ (r : ProgramRow). length (flat_map (λ (packets : List AudioPacket). packets) r.audios)) is.row_is ∙ row_packets program.audios in
     let units : length (row.units ++ []) ≡ length row.units = ap length (append-nil row.units) in
@@ -71,15 +73,16 @@ row_is_text law number content program row probed bytes is =
       audio_packets = omega (arith, packets, placed.2);
       distortions = omega (arith, sum, placed.3);
     } in
-    let few_packets : length (flat_map (λ (p : List AudioPacket). p) row.audios ++ []) ≤ TEXT_AUDIO_PACKETS_MOST = omega (arith, packets, same, probed.few_packets) in
+    let few_packets : length (flat_map (λ (p : List AudioPacket). p) row.audios ++ []) ≤ PROBED_AUDIO_PACKETS_MOST = omega (arith, packets, same, probed.few_packets) in
+    let text_packets : length (flat_map (λ (p : List AudioPacket). p) row.audios ++ []) ≤ TEXT_AUDIO_PACKETS_MOST = omega (arith, few_packets) in
     record {
       valid = valid;
-      few_packets = few_packets;
+      few_packets = text_packets;
       short = omega (arith, spelling_size (table_of_row row) valid, units, few, few_packets);
     }
 
 pub is_text_table : RowsArePlaced → (number : ℕ) (content : List ℕ) (program : Program) (row : ProgramRow) (programs : List ProgramRow)
-    → IsProbed PROBE_SLOT START_DEFAULT number [] content program → AreBytes program.video → IsRowOf program COARSER_DEFAULT WEIGHT_DEFAULT row → programs ≡ row ∷ []
+    → IsProbed PROBE_SLOT START_DEFAULT number [] content program → AreBytes program.video → IsRowOf program COARSER_DEFAULT WEIGHT_DEFAULT DRIFT_DEFAULT row → programs ≡ row ∷ []
     → IsTextTable (record { slot = PROBE_SLOT; nodes = NODES_DEFAULT; evaluations = EVALUATIONS_DEFAULT; programs = programs })
 is_text_table law number content program row programs probed bytes is alone =
     subst (λ (rows : List ProgramRow). IsTextTable (record { slot = PROBE_SLOT; nodes = NODES_DEFAULT; evaluations = EVALUATIONS_DEFAULT; programs = rows })) (sym alone)

@@ -2,7 +2,7 @@
 use Rattle.std.specs.Prelude.{◌≡◌, ℕ, ◌≤◌, ◌⊎◌, List, [], ◌∷◌, length, take, Option, Some}
 use Rattle.std.specs.FinMap.{insert}
 use Rattle.job_programs.specs.Told.{IsProbedOn, IsProbeRefusedOn}
-use Rattle.job_report.specs.declared.limits.TheConstants.{COARSER_DEFAULT, EVALUATIONS_DEFAULT, NODES_DEFAULT, PROBE_SLOT, START_DEFAULT, WEIGHT_DEFAULT}
+use Rattle.job_report.specs.declared.limits.TheConstants.{COARSER_DEFAULT, DRIFT_DEFAULT, EVALUATIONS_DEFAULT, NODES_DEFAULT, PROBE_SLOT, START_DEFAULT, WEIGHT_DEFAULT}
 use Rattle.job_report.specs.Report.{report_line}
 use Rattle.program_reader.specs.declared.limits.TheConstants.{FILE_BYTES_MOST}
 use Rattle.program_reader.specs.declared.program.Program.{Program}
@@ -22,13 +22,13 @@ abbrev pub HoldsProbed : Option Files → (file : List ℕ) → (number : ℕ) �
 HoldsProbed told file number program = IsProbedOn told file PROBE_SLOT START_DEFAULT number [] program
 
 -- The table of a program that is probed: slots of `PROBE_SLOT` ticks, the nodes and evaluations of a job that says nothing, and the
--- program alone, in the versions and with the weight that such a job gives it.
+-- program alone, in the versions and with the weight that such a job gives it, without drift.
 pub record IsProbedTable (program : Program) (table : Table) : Type 0 where
   pub slot : table.slot ≡ PROBE_SLOT
   pub nodes : table.nodes ≡ NODES_DEFAULT
   pub evaluations : table.evaluations ≡ EVALUATIONS_DEFAULT
   pub row : ProgramRow
-  pub is_row : IsRowOf program COARSER_DEFAULT WEIGHT_DEFAULT row
+  pub is_row : IsRowOf program COARSER_DEFAULT WEIGHT_DEFAULT DRIFT_DEFAULT row
   pub alone : table.programs ≡ row ∷ []
 
 -- a file holds this program of a number, this is its table, and a text may hold that
@@ -73,6 +73,7 @@ probe_task file number table = record {
   calls_for = ProbeCallsFor file number;
   may_refuse = ProbeMayRefuse;
   tells_work = TellsProbed file number;
+  fits_none = λ told slots. ⊥;
   is_done = ProbeDone file number table;
   leaves = ProbeLeaves file number table;
   reads = λ told name limit. (name ≡ file) × (limit ≡ FILE_BYTES_MOST);

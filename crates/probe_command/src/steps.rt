@@ -14,7 +14,8 @@ use command_words::{
 };
 use job_programs::{ProgramsFault, read_one};
 use job_report::limits::{
-    COARSER_DEFAULT, EVALUATIONS_DEFAULT, NODES_DEFAULT, PROBE_SLOT, START_DEFAULT, WEIGHT_DEFAULT,
+    COARSER_DEFAULT, DRIFT_DEFAULT, EVALUATIONS_DEFAULT, NODES_DEFAULT, PROBE_SLOT, START_DEFAULT,
+    WEIGHT_DEFAULT,
 };
 use list_types::{ListOf, OutOfMemory};
 use program_reader::Program;
@@ -101,7 +102,13 @@ fn table_of_probed(alloc: Global, program: &Program) -> Result<Table, OutOfMemor
     programs_can_be_sent();
     row_is_valid();
     see_bytes(program.video.as_slice());
-    let row = row_of_program(alloc, program, &COARSER_DEFAULT, WEIGHT_DEFAULT)?;
+    let row = row_of_program(
+        alloc,
+        program,
+        &COARSER_DEFAULT,
+        WEIGHT_DEFAULT,
+        DRIFT_DEFAULT,
+    )?;
     let programs = only_program(alloc, row)?;
     Ok(Table {
         slot: PROBE_SLOT,

@@ -17,7 +17,6 @@ use Rattle.program_reader.specs.declared.timed_picture.TimedPicture.{TimedPictur
 use Rattle.program_reader.specs.Intervals.{shown_as, share_of, shown_meanwhile}
 use Rattle.program_reader.specs.Units.{role_behind, IsTimed, HasNoTime, IsCoded, IsUnitRefused}
 use Rattle.program_reader.specs.Packets.{taken, packets_dropped}
-use Rattle.program_reader.specs.PictureTimes.{begins_picture}
 use Rattle.program_reader.specs.Audio.{IsDue, payload_place, piece_places, piece_size}
 use Rattle.pes_units.proofs.WorkedExamples.{only_pts_bytes}
 
@@ -82,12 +81,6 @@ cut_header = (refl, refl, refl)
 cut_audio : taken false (unit_of (0x00 ∷ 0x00 ∷ 0x01 ∷ 0xC0 ∷ 0x00 ∷ 0xFF ∷ 0x80 ∷ 0x80 ∷ 0x05 ∷ 0x21 ∷ 0x00 ∷ 0x05 ∷ 0xBF ∷ 0x21 ∷ [])) ≡ []
 unfolding bit bits
 cut_audio = refl
-
--- ---- where pictures begin: the time code of a group of pictures header may look like a picture start code
-
-no_picture : (begins_picture (0x00 ∷ 0x00 ∷ 0x01 ∷ 0xB8 ∷ 0x00 ∷ 0x00 ∷ 0x01 ∷ 0x00 ∷ 0x00 ∷ 0x00 ∷ 0x01 ∷ 0x00 ∷ []) 4 ≡ false)
-    × (begins_picture (0x00 ∷ 0x00 ∷ 0x01 ∷ 0xB8 ∷ 0x00 ∷ 0x00 ∷ 0x01 ∷ 0x00 ∷ 0x00 ∷ 0x00 ∷ 0x01 ∷ 0x00 ∷ []) 8 ≡ true)
-no_picture = (refl, refl)
 
 -- ---- a PES packet of 590 bytes has four pieces, the last one of 38 bytes
 

@@ -1,9 +1,8 @@
 -- Frames that a payload byte doesn't count with.
-use Rattle.std.proofs.Common.{◌≡◌, ℕ, ◌+◌, ◌<◌, ◌≤◌, nat_lt, Bool, true, false, List, [], ◌∷◌, refl, sym, ap, ◌∙◌, arith}
+use Rattle.std.proofs.Common.{◌≡◌, ℕ, ◌+◌, ◌≤◌, nat_lt, true, false, List, ◌∷◌, refl, arith}
 use Rattle.std.proofs.lemmas.Bool.{ltb-false, le-ltb}
 use Rattle.audio_frames.specs.declared.frame.Frame.{Frame}
 use Rattle.program_reader.specs.Audio.{time_of_byte}
-use Rattle.program_reader.specs.Private.FrameWalk.{IsFirstFrame}
 
 -- a frame that ends before a place tells nothing of the places behind
 pub frame_passed : (frame : Frame) (frames : List Frame) (place later : ℕ) → place ≤ later → nat_lt place (frame.at + frame.len) ≡ false →

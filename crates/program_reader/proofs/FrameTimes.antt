@@ -1,49 +1,5 @@
 -- How many audio frames there are, and how far from 0 their times are.
-use Rattle.std.proofs.Common.{
-  ◌≡◌,
-  ℕ,
-  zero,
-  suc,
-  ◌+◌,
-  ◌-◌,
-  ◌*◌,
-  ◌/◌,
-  ◌^◌,
-  ◌<◌,
-  ◌≤◌,
-  ◌==◌,
-  nat_le,
-  Bool,
-  true,
-  false,
-  cond,
-  List,
-  [],
-  ◌∷◌,
-  length,
-  drop,
-  map,
-  filter,
-  get_or,
-  All,
-  Option,
-  None,
-  Some,
-  IfSome,
-  if◌then◌else◌,
-  refl,
-  sym,
-  ap,
-  ◌∙◌,
-  subst,
-  arith,
-  ℤ,
-  pos,
-  neg_ℤ,
-  ◌+ℤ◌,
-  ◌*ℤ◌,
-  ◌≤ℤ◌,
-}
+use Rattle.std.proofs.Common.{◌≡◌, ℕ, zero, suc, ◌+◌, ◌-◌, ◌*◌, ◌/◌, ◌<◌, ◌≤◌, ◌==◌, nat_le, Bool, true, false, cond, List, [], ◌∷◌, length, drop, map, filter, get_or, All, Option, None, Some, IfSome, if◌then◌else◌, refl, ap, subst, arith, ℤ, pos, neg_ℤ, ◌+ℤ◌, ◌*ℤ◌, ◌≤ℤ◌}
 use Rattle.std.specs.Prelude.{slice_index, option_and_then}
 use Rattle.std.specs.List.{last_or}
 use Rattle.std.proofs.lemmas.Bool.{and_parts, leb-true}
@@ -53,7 +9,7 @@ use Rattle.std.proofs.lemmas.List.Elements.{All-tail}
 use Rattle.audio_frames.specs.declared.frame.Frame.{Frame}
 use Rattle.audio_frames.specs.declared.pes_start.PesStart.{PesStart}
 use Rattle.audio_frames.specs.FrameHeader.{id, sampling_index, bit_rate_index, padding_bit, sampling_rate, frame_length, is_header}
-use Rattle.audio_frames.specs.Frames.{is_audio_frame, goes_on, end_of, is_first, first_frame, AreFrames, AreAllFrames}
+use Rattle.audio_frames.specs.Frames.{goes_on, end_of, is_first, AreFrames, AreAllFrames}
 use Rattle.audio_frames.specs.Times.{pes_packet_of, is_first_frame_in, given_time, frame_ticks, IsTimeOf, rate_of, AreFramesOf}
 use Rattle.list_types.specs.Spans.{spans}
 use Rattle.audio_frames.proofs.Chains.{some_frame}
@@ -133,7 +89,7 @@ frames_few payload starts frames are =
 -- ---- what a frame's time is made of
 
 abbrev IsNearStart : PesStart → Type 0
-IsNearStart start = IfSome start.time (IsNear 2855696)
+IsNearStart start = IfSome start.time (IsNear 4000000)
 
 last_near : (test : PesStart → Bool) (before : Option PesStart) (starts : List PesStart) → IfSome before IsNearStart → All IsNearStart starts →
     IfSome (last_or before (filter test starts)) IsNearStart
@@ -146,44 +102,44 @@ last_near test before (s ∷ ss) near all =
     by_test true with_it without = with_it
     by_test false with_it without = without
 
-near_of : (first : Bool) (time : Option ℤ) (given : ℤ) → IfSome time (IsNear 2855696) → (if first then time else None) ≡ Some given → IsNear 2855696 given
-near_of true time given near is = subst (λ (t : Option ℤ). IfSome t (IsNear 2855696)) is near
+near_of : (first : Bool) (time : Option ℤ) (given : ℤ) → IfSome time (IsNear 4000000) → (if first then time else None) ≡ Some given → IsNear 4000000 given
+near_of true time given near is = subst (λ (t : Option ℤ). IfSome t (IsNear 4000000)) is near
 near_of false time given near is = absurd cc
 
-given_near : (starts : List PesStart) (places : List ℕ) (k : ℕ) (given : ℤ) → AreNear 2855696 starts → given_time starts places k ≡ Some given → IsNear 2855696 given
+given_near : (starts : List PesStart) (places : List ℕ) (k : ℕ) (given : ℤ) → AreNear 4000000 starts → given_time starts places k ≡ Some given → IsNear 4000000 given
 given_near starts places k given near is =
     by_packet (pes_packet_of starts (slice_index places k)) (last_near (λ start. nat_le start.at (slice_index places k)) None starts tt near) is
   where
     by_packet : (packet : Option PesStart) → IfSome packet IsNearStart →
-        option_and_then (λ packet. if is_first_frame_in places k packet then packet.time else None) packet ≡ Some given → IsNear 2855696 given
+        option_and_then (λ packet. if is_first_frame_in places k packet then packet.time else None) packet ≡ Some given → IsNear 4000000 given
     by_packet None near is = absurd cc
     by_packet (Some packet) near is = near_of (is_first_frame_in places k packet) packet.time given near is
 
-ticks_most : (rate count : ℕ) → 16000 ≤ rate → count ≤ 1073741824 → frame_ticks rate count ≤ 2087354105856000
+ticks_most : (rate count : ℕ) → 16000 ≤ rate → count ≤ 1099511627776 → frame_ticks rate count ≤ 2137450604396544000
 ticks_most rate count least few =
     let small : count * 31104000000 / rate * 16000 ≤ count * 31104000000 = quotient_small (count * 31104000000) rate least in
     small_enough (count * 31104000000 / rate) count small few
   where
-    small_enough : (q c : ℕ) → q * 16000 ≤ c * 31104000000 → c ≤ 1073741824 → q ≤ 2087354105856000
+    small_enough : (q c : ℕ) → q * 16000 ≤ c * 31104000000 → c ≤ 1099511627776 → q ≤ 2137450604396544000
     small_enough q c le few = omega arith
 
-time_near : (given time : ℤ) (ticks : ℕ) → IsNear 2855696 given → ticks ≤ 2087354105856000 → time ≡ (pos 300 *ℤ given) +ℤ pos ticks → IsTime time
+time_near : (given time : ℤ) (ticks : ℕ) → IsNear 4000000 given → ticks ≤ 2137450604396544000 → time ≡ (pos 300 *ℤ given) +ℤ pos ticks → IsTime time
 time_near given time ticks near few is = record { least = low given time ticks near.low is; most = high given time ticks near.high few is }
   where
-    low : (g t : ℤ) (n : ℕ) → neg_ℤ (pos (8589934592 + 2855696 * 4294967296)) ≤ℤ g → t ≡ (pos 300 *ℤ g) +ℤ pos n → neg_ℤ (pos 4000000000000000000) ≤ℤ t
+    low : (g t : ℤ) (n : ℕ) → neg_ℤ (pos (8589934592 + 4000000 * 4294967296)) ≤ℤ g → t ≡ (pos 300 *ℤ g) +ℤ pos n → neg_ℤ (pos 9000000000000000000) ≤ℤ t
     low g t n near is = omega (arith, ints)
 
-    high : (g t : ℤ) (n : ℕ) → g ≤ℤ pos (8589934592 + 2855696 * 4294967296) → n ≤ 2087354105856000 → t ≡ (pos 300 *ℤ g) +ℤ pos n → t ≤ℤ pos 4000000000000000000
+    high : (g t : ℤ) (n : ℕ) → g ≤ℤ pos (8589934592 + 4000000 * 4294967296) → n ≤ 2137450604396544000 → t ≡ (pos 300 *ℤ g) +ℤ pos n → t ≤ℤ pos 9000000000000000000
     high g t n near few is = omega (arith, ints)
 
 -- the times of all frames are far from the ends of 64 bits
-pub frames_near : (payload : List ℕ) (starts : List PesStart) (frames : List Frame) → AreFramesOf payload starts frames → AreNear 2855696 starts → length payload < 1073741824 →
+pub frames_near : (payload : List ℕ) (starts : List PesStart) (frames : List Frame) → AreFramesOf payload starts frames → AreNear 4000000 starts → length payload ≤ 1099511627776 →
     All (λ frame. IsTime frame.time) frames
 frames_near payload starts frames are near small k d lt =
     let times = map (λ (frame : Frame). frame.time) frames in
     let few : length times ≡ length frames = length-map frames (λ (frame : Frame). frame.time) in
     let of : IsTimeOf starts are.places (rate_of payload are.places) k (get_or times k (pos 0)) = are.times k (omega (arith, few, lt)) in
-    let count : k - of.last ≤ 1073741824 = omega (arith, frames_few payload starts frames are, lt, small) in
+    let count : k - of.last ≤ 1099511627776 = omega (arith, frames_few payload starts frames are, lt, small) in
     let rate : 16000 ≤ rate_of payload are.places = (header_says (drop (slice_index are.places 0) payload) (some_frame payload are.places are.all).1).0 in
     subst IsTime (get_or-map (λ (frame : Frame). frame.time) frames k d (pos 0) lt)
     (time_near of.given (get_or times k (pos 0)) (frame_ticks (rate_of payload are.places) (k - of.last)) (given_near starts are.places of.last of.given near of.is_given)

@@ -72,7 +72,8 @@ use Rattle.program_reader.specs.declared.timed_picture.Role.TheVariants.{Frame, 
 use Rattle.program_reader.specs.declared.timed_picture.TimedPicture.{TimedPicture}
 use Rattle.program_reader.specs.declared.unit_picture.TimedUnit.{TimedUnit}
 use Rattle.program_reader.specs.Packets.{pes_payload_of, joined, placed_from}
-use Rattle.program_reader.specs.PictureTimes.{first_picture, is_first_picture_in, no_times, times_at, times_of_unit}
+use Rattle.es_units.specs.Pictures.{first_picture}
+use Rattle.program_reader.specs.PictureTimes.{is_first_picture_in, no_times, times_at, times_of_unit}
 use Rattle.program_reader.specs.Intervals.{frame_period, frame_shown, is_b, nearest, share_of, shown_as, shown_meanwhile}
 use Rattle.program_reader.specs.Units.{unit_bytes, state_behind, ticks_behind, IsTimed, IsNext, IsBroken, IsUnitRefused}
 use Rattle.program_reader.specs.Units.{AreInOrder, last_of, is_none_left, IsUnitsFault, AreKept}
@@ -220,16 +221,16 @@ far_more ticks count more units le near = (low ticks count more units le near.0,
     high : (t : ℤ) (c d u : ℕ) → c ≤ d → t ≤ℤ pos (300 * (8589934592 + c * 4294967296) + 3378375 * u) → t ≤ℤ pos (300 * (8589934592 + d * 4294967296) + 3378375 * u)
     high t c d u le near = omega (arith, ints)
 
-far_tick : (ticks : ℤ) (count units : ℕ) → count ≤ 2855696 → units ≤ 1073741825 → IsFar count units ticks → (neg_ℤ (pos (4 * 10 ^ 18)) ≤ℤ ticks) × (ticks ≤ℤ pos (4 * 10 ^ 18))
+far_tick : (ticks : ℤ) (count units : ℕ) → count ≤ 4000000 → units ≤ 1099511627777 → IsFar count units ticks → (neg_ℤ (pos (9 * 10 ^ 18)) ≤ℤ ticks) × (ticks ≤ℤ pos (9 * 10 ^ 18))
 far_tick ticks count units few units_few near = (low ticks count units few units_few near.0, high ticks count units few units_few near.1)
   where
-    low : (t : ℤ) (c u : ℕ) → c ≤ 2855696 → u ≤ 1073741825 → neg_ℤ (pos (300 * (8589934592 + c * 4294967296) + 3378375 * u)) ≤ℤ t → neg_ℤ (pos 4000000000000000000) ≤ℤ t
+    low : (t : ℤ) (c u : ℕ) → c ≤ 4000000 → u ≤ 1099511627777 → neg_ℤ (pos (300 * (8589934592 + c * 4294967296) + 3378375 * u)) ≤ℤ t → neg_ℤ (pos 9000000000000000000) ≤ℤ t
     low t c u few less near = omega (arith, ints)
 
-    high : (t : ℤ) (c u : ℕ) → c ≤ 2855696 → u ≤ 1073741825 → t ≤ℤ pos (300 * (8589934592 + c * 4294967296) + 3378375 * u) → t ≤ℤ pos 4000000000000000000
+    high : (t : ℤ) (c u : ℕ) → c ≤ 4000000 → u ≤ 1099511627777 → t ≤ℤ pos (300 * (8589934592 + c * 4294967296) + 3378375 * u) → t ≤ℤ pos 9000000000000000000
     high t c u few less near = omega (arith, ints)
 
-pub possible_near : (picture : TimedPicture) (count units : ℕ) → count ≤ 2855696 → units ≤ 1073741825 → IsPictureNear count units picture → IsPossible picture
+pub possible_near : (picture : TimedPicture) (count units : ℕ) → count ≤ 4000000 → units ≤ 1099511627777 → IsPictureNear count units picture → IsPossible picture
 possible_near picture count units few units_few near = let ticks = far_tick picture.ticks count units few units_few (near.least, near.most) in record {
   state = near.state;
   stated_least = near_low picture.stated count few near.stated;
@@ -240,10 +241,10 @@ possible_near picture count units few units_few near = let ticks = far_tick pict
   shown_behind = near.shown_behind;
 }
   where
-    wide_low : (t : ℤ) → neg_ℤ (pos 4000000000000000000) ≤ℤ t → neg_ℤ (pos 4611686018427387904) ≤ℤ t
+    wide_low : (t : ℤ) → neg_ℤ (pos 9000000000000000000) ≤ℤ t → neg_ℤ (pos 9000000000000000000) ≤ℤ t
     wide_low t le = omega (arith, ints)
 
-    wide_high : (t : ℤ) → t ≤ℤ pos 4000000000000000000 → t ≤ℤ pos 4611686018427387904
+    wide_high : (t : ℤ) → t ≤ℤ pos 9000000000000000000 → t ≤ℤ pos 9000000000000000000
     wide_high t le = omega (arith, ints)
 
 -- the state in force behind a unit
@@ -317,7 +318,7 @@ pub record KeptSoFar (es : List ℕ) (packets : List PlacedPacket) (cuts : List 
   pub fits : Fits (length es) from (drop i cuts)
   pub tells : TellTimes es packets from left
   pub count : ℕ
-  pub counted : count + length left ≤ 2855696
+  pub counted : count + length left ≤ 4000000
   pub near : IfSome kept.last (IsPictureNear count i)
 
 -- the pictures of these units, the nearest first
@@ -336,7 +337,7 @@ earlier_tells es packets cuts i left kept so_far = last_tells es packets [] (tak
 -- ---- the units before the first one
 
 pub kept_none : (es : List ℕ) (packets : List PlacedPacket) (cuts : List (ℕ × ℕ)) (left : List StampedPicture) (kept : KeptUnits) → Fits (length es) 0 cuts →
-    TellTimes es packets 0 left → length left ≤ 2855696 → kept.units.items ≡ [] → kept.first ≡ None → kept.last ≡ None → kept.dropped ≡ 0 → KeptSoFar es packets cuts 0 left kept
+    TellTimes es packets 0 left → length left ≤ 4000000 → kept.units.items ≡ [] → kept.first ≡ None → kept.last ≡ None → kept.dropped ≡ 0 → KeptSoFar es packets cuts 0 left kept
 kept_none es packets cuts left kept fits tells few none first last dropped = record {
   pictures = [];
   keep = record {
@@ -371,7 +372,7 @@ next_unit es packets cuts i unit left kept lt is so_far =
     let fits : Fits (length es) so_far.from (unit ∷ drop (i + 1) cuts) = subst (Fits (length es) so_far.from) split so_far.fits in
     record { order = fits.1; within = fits.2; tells = tells_later es packets so_far.from unit.0 left fits.0 so_far.tells; fits = fits.3 }
 
-pub possible_before : (es : List ℕ) (packets : List PlacedPacket) (cuts : List (ℕ × ℕ)) (i : ℕ) (left : List StampedPicture) (kept : KeptUnits) → i < length cuts → length cuts ≤ 1073741824 →
+pub possible_before : (es : List ℕ) (packets : List PlacedPacket) (cuts : List (ℕ × ℕ)) (i : ℕ) (left : List StampedPicture) (kept : KeptUnits) → i < length cuts → length cuts ≤ 1099511627777 →
     KeptSoFar es packets cuts i left kept → IfSome kept.last IsPossible
 possible_before es packets cuts i left kept lt few so_far = by_last kept.last so_far.near
   where
@@ -398,8 +399,8 @@ range_of_unit es packets unit all = by_place (first_picture es unit.0 unit.1)
     by_place (Some at) = range_at es packets at all
 
 -- how many times are stated up to it
-step_of : (left behind : List StampedPicture) (times : Times) (count : ℕ) → count + length left ≤ 2855696 → IsCounted left behind times →
-    (next : ℕ) × IsStep count next (decoding_time times) × (next + length behind ≤ 2855696)
+step_of : (left behind : List StampedPicture) (times : Times) (count : ℕ) → count + length left ≤ 4000000 → IsCounted left behind times →
+    (next : ℕ) × IsStep count next (decoding_time times) × (next + length behind ≤ 4000000)
 step_of left behind times count few (inl less) = (count + 1, by_value (decoding_time times), omega (arith, few, less))
   where
     by_value : (value : Option ℕ) → IsStep count (count + 1) value
@@ -409,7 +410,7 @@ step_of left behind times count few (inr none) =
     (count, subst (λ (t : Times). IsStep count count (decoding_time t)) (sym none.0) (let same : count ≤ count = omega arith in same), omega (arith, few, none.1))
 
 pub kept_more : (es : List ℕ) (packets : List PlacedPacket) (cuts : List (ℕ × ℕ)) (i : ℕ) (unit : ℕ × ℕ) (left behind : List StampedPicture) (old new : KeptUnits) (times : Times)
-    (picture : TimedPicture) → i < length cuts → length cuts ≤ 1073741824 → unit ≡ get_or cuts i (0, 0) → All (λ packet. IsInRange (decoding_time packet.header.times)) packets →
+    (picture : TimedPicture) → i < length cuts → length cuts ≤ 1099511627777 → unit ≡ get_or cuts i (0, 0) → All (λ packet. IsInRange (decoding_time packet.header.times)) packets →
     (so_far : KeptSoFar es packets cuts i left old) → TellTimes es packets unit.1 behind → IsCounted left behind times → times ≡ times_of_unit es packets unit →
     IsNext es packets (earlier_kept es packets cuts i left old so_far) unit picture →
     new.units.items ≡ old.units.items ++ row_of unit picture ∷ [] → new.first ≡ Some (unwrap_or old.first picture) → new.last ≡ Some picture → new.dropped ≡ old.dropped →
@@ -428,7 +429,7 @@ kept_more es packets cuts i unit left behind old new times picture lt few is ran
     let possible : IfSome (nearest earlier) IsPossible =
     subst (λ (b : Option TimedPicture). IfSome b IsPossible) (sym last_same) (possible_before es packets cuts i left old lt few so_far) in
     let shown = shown_next es packets earlier unit picture possible (earlier_tells es packets cuts i left old so_far) next in
-    let next_few : step.0 ≤ 2855696 = omega (arith, step.2) in
+    let next_few : step.0 ≤ 4000000 = omega (arith, step.2) in
     let tick : IsTickUnit (row_of unit picture) = (let far = far_tick picture.ticks step.0 (i + 1) next_few (omega (arith, lt, few)) timed.1 in record { least = far.0; most = far.1 }) in
     let more : take (i + 1) cuts ≡ take i cuts ++ unit ∷ [] = take_more cuts i (0, 0) lt ∙ ap (λ (u : ℕ × ℕ). take i cuts ++ u ∷ []) (sym is) in
     let in_order : AreInOrder es packets [] (take i cuts ++ unit ∷ []) (so_far.pictures ++ picture ∷ []) =
@@ -565,7 +566,7 @@ stamps_few es (p ∷ ps) = by_first (first_picture es p.from p.end) (stamps_few 
     by_first (Some f) le = omega (arith, le)
 
 pub video_stamps : (video : TakenPackets) (es : List ℕ) (packets : List PlacedPacket) (stamps left : List StampedPicture) → es ≡ video.payload.items → packets ≡ video.packets.items →
-    stamps ≡ stamps_of es packets → left ≡ stamps → IsVideo video → TellTimes video.payload.items video.packets.items 0 left × (length left ≤ 2855696)
+    stamps ≡ stamps_of es packets → left ≡ stamps → IsVideo video → TellTimes video.payload.items video.packets.items 0 left × (length left ≤ 4000000)
 video_stamps video es packets stamps left payload placed stamps_are same is =
     let all : left ≡ stamps_of video.payload.items video.packets.items =
     same ∙ stamps_are ∙ ap (λ (xs : List ℕ). stamps_of xs packets) payload ∙ ap (stamps_of video.payload.items) placed in
@@ -575,8 +576,8 @@ video_stamps video es packets stamps left payload placed stamps_are same is =
         same = λ place le. ap (λ (ss : List StampedPicture). times_of_stamp ss place) all ∙ sym (times_stamped video.payload.items video.packets.items place);
         rising = subst (AreRising 0) (sym all) rising;
       },
-      (let few : length (stamps_of video.payload.items video.packets.items) ≤ 2855696 = omega (arith, is.few, stamps_few video.payload.items video.packets.items) in
-          subst (λ (ss : List StampedPicture). length ss ≤ 2855696) (sym all) few),
+      (let few : length (stamps_of video.payload.items video.packets.items) ≤ 4000000 = omega (arith, is.few, stamps_few video.payload.items video.packets.items) in
+          subst (λ (ss : List StampedPicture). length ss ≤ 4000000) (sym all) few),
     )
 
 -- ---- bytes and the unit before as a slice and a reference

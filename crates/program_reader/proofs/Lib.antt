@@ -1,3 +1,4 @@
+pub mod CarryLemmas
 pub mod CutLemmas
 pub mod DueLemmas
 pub mod FrameLemmas
@@ -20,6 +21,8 @@ pub mod SizeLemmas
 pub mod SourceLemmas
 pub mod StampLemmas
 pub mod TakenLemmas
+pub mod TimesWalked
 pub mod UnitLemmas
 pub mod TimeRange
+mod CarryExamples
 mod Examples

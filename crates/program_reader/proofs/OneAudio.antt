@@ -1,55 +1,7 @@
 -- A payload has one list of audio frames, or one fault.
-use Rattle.std.proofs.Common.{
-  ◌≡◌,
-  ◌≢◌,
-  ◌⊎◌,
-  ℕ,
-  zero,
-  suc,
-  ◌+◌,
-  ◌-◌,
-  ◌*◌,
-  ◌^◌,
-  ◌<◌,
-  ◌≤◌,
-  ◌==◌,
-  ◌&&◌,
-  ◌||◌,
-  nat_lt,
-  nat_le,
-  Bool,
-  true,
-  false,
-  List,
-  [],
-  ◌∷◌,
-  ◌++◌,
-  length,
-  drop,
-  map,
-  get_or,
-  Option,
-  None,
-  Some,
-  unwrap_or,
-  refl,
-  sym,
-  ap,
-  ap₂,
-  ◌∙◌,
-  subst,
-  inl,
-  inr,
-  arith,
-  ℤ,
-  pos,
-  ◌+ℤ◌,
-  ◌*ℤ◌,
-  ◌≤ℤ◌,
-  ◌<ℤ◌,
-}
+use Rattle.std.proofs.Common.{◌≡◌, ◌≢◌, ◌⊎◌, ℕ, zero, suc, ◌+◌, ◌-◌, ◌<◌, ◌≤◌, ◌==◌, ◌&&◌, ◌||◌, nat_lt, nat_le, Bool, true, false, List, [], ◌∷◌, length, drop, map, Option, None, Some, unwrap_or, refl, sym, ap, ap₂, ◌∙◌, subst, inl, inr, arith, ℤ, pos, ◌+ℤ◌, ◌*ℤ◌, ◌≤ℤ◌, ◌<ℤ◌}
 use Rattle.std.specs.Prelude.{slice_index}
-use Rattle.std.proofs.lemmas.Bool.{and_parts, leb-true, le-ltb, cases_lt}
+use Rattle.std.proofs.lemmas.Bool.{and_parts, leb-true, le-ltb}
 use Rattle.std.proofs.lemmas.Int.{ints}
 use Rattle.std.proofs.lemmas.List.{length-map, length-drop}
 use Rattle.audio_frames.specs.declared.audio_fault.AudioFault.{AudioFault}
@@ -60,9 +12,7 @@ use Rattle.audio_frames.specs.FrameHeader.{syncword}
 use Rattle.audio_frames.specs.Frames.{is_audio_frame, goes_on, end_of, is_near_end, is_rest, first_frame, AreFrames, FramesUpTo, AreAllFrames, BreaksAt}
 use Rattle.audio_frames.specs.Times.{given_time, frame_ticks, frame_time_at, IsTimeOf, AreTimes, AreRising, rate_of, AreFramesOf, IsUntimed, IsOutOfOrder, IsAudioRefused}
 use Rattle.list_types.specs.Spans.{spans}
-use Rattle.audio_frames.proofs.Chains.{some_frame}
 use Rattle.audio_frames.proofs.Formats.{header_long, goes_on_header}
-use Rattle.pes_units.specs.TimeAxis.{IsUnwrapped}
 use Rattle.pes_units.specs.Times.{decoding_time}
 use Rattle.program_reader.specs.declared.pes_packets.PlacedPacket.{PlacedPacket}
 use Rattle.program_reader.specs.Audio.{IsPlacedTime, AreStartsOf}

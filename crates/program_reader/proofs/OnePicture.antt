@@ -1,10 +1,10 @@
 -- A unit is one picture, or breaks one rule, and never both.
-use Rattle.std.proofs.Common.{◌≡◌, ◌⊎◌, ℕ, ◌+◌, ◌/◌, List, [], length, Option, refl, sym, ap, ◌∙◌, subst, inl, inr, arith}
+use Rattle.std.proofs.Common.{◌≡◌, ℕ, ◌+◌, ◌/◌, List, [], length, Option, sym, ap, ◌∙◌, subst, inl, inr, arith}
 use Rattle.bit_lists.specs.Fields.{bit_list}
 use Rattle.syntax_types.specs.declared.picture.PicCoding.{PicCoding}
 use Rattle.syntax_types.specs.declared.picture.Picture.{Picture}
 use Rattle.syntax_types.specs.declared.picture.SeqState.{SeqState}
-use Rattle.picture_grammar.specs.Picture.{IsCovered, picture_unit, RefusesPicture, SpellsPicture}
+use Rattle.picture_grammar.specs.Picture.{IsCovered, RefusesPicture, SpellsPicture}
 use Rattle.picture_grammar.specs.Refusal.{Refusal}
 use Rattle.picture_grammar.proofs.HeaderLaws.{exact-picture_unit}
 use Rattle.program_reader.specs.declared.timed_picture.TimedPicture.{TimedPicture}

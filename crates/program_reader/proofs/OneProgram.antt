@@ -1,47 +1,5 @@
 -- A file has one program, or one refusal, and never both.
-use Rattle.std.proofs.Common.{
-  ◌≡◌,
-  ◌≢◌,
-  ◌⊎◌,
-  ℕ,
-  suc,
-  ◌+◌,
-  ◌-◌,
-  ◌*◌,
-  ◌^◌,
-  ◌<◌,
-  ◌≤◌,
-  min,
-  Bool,
-  true,
-  false,
-  List,
-  [],
-  ◌∷◌,
-  ◌++◌,
-  length,
-  map,
-  All,
-  Contains,
-  Option,
-  None,
-  Some,
-  refl,
-  sym,
-  ap,
-  ap₂,
-  ◌∙◌,
-  subst,
-  inl,
-  inr,
-  arith,
-  ℤ,
-  pos,
-  ◌+ℤ◌,
-  ◌-ℤ◌,
-  ◌*ℤ◌,
-  ◌≤ℤ◌,
-}
+use Rattle.std.proofs.Common.{◌≡◌, ◌≢◌, ◌⊎◌, ℕ, ◌+◌, ◌-◌, ◌^◌, ◌<◌, min, Bool, true, false, List, [], ◌∷◌, ◌++◌, length, All, None, Some, refl, sym, ap, ap₂, ◌∙◌, subst, inl, inr, arith, ℤ, pos, ◌+ℤ◌, ◌-ℤ◌, ◌*ℤ◌, ◌≤ℤ◌}
 use Rattle.std.proofs.lemmas.Int.{ints}
 use Rattle.std.proofs.lemmas.List.Elements.{All-tail, All-contains}
 use Rattle.audio_frames.specs.declared.audio_fault.AudioFault.{AudioFault}
@@ -50,7 +8,6 @@ use Rattle.audio_frames.specs.declared.frame.Frame.{Frame}
 use Rattle.audio_frames.specs.declared.pes_start.PesStart.{PesStart}
 use Rattle.audio_frames.specs.Times.{AreFramesOf, IsAudioRefused}
 use Rattle.es_units.specs.declared.units.Units.{Units}
-use Rattle.es_units.specs.Units.{cut_units}
 use Rattle.pes_units.specs.declared.pes_fault.PesFault.{PesFault}
 use Rattle.pes_units.specs.declared.times.Times.{Times}
 use Rattle.pes_units.specs.PesPackets.{packet_refusal}
@@ -61,7 +18,7 @@ use Rattle.ts_demux.specs.declared.demux_fault.DemuxFault.TheVariants as demux_f
 use Rattle.ts_demux.specs.declared.demuxed.AudioStream.{AudioStream}
 use Rattle.ts_demux.specs.declared.demuxed.Demuxed.{Demuxed}
 use Rattle.ts_demux.specs.declared.demuxed.PesUnit.{PesUnit}
-use Rattle.ts_demux.specs.Demux.{IsDemuxed, IsDemuxRefused}
+use Rattle.ts_demux.specs.Demux.{IsDemuxed}
 use Rattle.ts_demux.proofs.OneAnswer as demux_answers
 use Rattle.program_reader.specs.declared.pes_packets.PlacedPacket.{PlacedPacket}
 use Rattle.program_reader.specs.declared.program.AudioPiece.{AudioPiece}
@@ -70,28 +27,15 @@ use Rattle.program_reader.specs.declared.program.Program.{Program}
 use Rattle.program_reader.specs.declared.program.UnitSource.{UnitSource}
 use Rattle.program_reader.specs.declared.program_fault.ProgramFault.{ProgramFault}
 use Rattle.program_reader.specs.declared.program_fault.ProgramFault.TheVariants.{Refused, OutOfMemory}
+use Rattle.program_reader.specs.declared.timed_picture.Role.{Role}
 use Rattle.program_reader.specs.declared.timed_picture.TimedPicture.{TimedPicture}
 use Rattle.program_reader.specs.Faults.{of_demux, of_pes, of_audio}
 use Rattle.program_reader.specs.Packets.{fault_before, AreSound, IsPacketFault, joined, placed_from}
-use Rattle.program_reader.specs.Units.{AreKept, all, but_last, AreInOrder, last_of, IsBroken, IsUnitsFault}
-use Rattle.program_reader.specs.Audio.{
-  taken_of,
-  AreStartsOf,
-  HasFrames,
-  IsStreamRefused,
-  bad_packet,
-  bad_frames,
-  HaveFrames,
-  IsAudioFault,
-  IsDue,
-  IsPiece,
-  ArePieces,
-  placed_pieces,
-  IsAudioSource,
-  AreAudioSources,
-}
+use Rattle.program_reader.specs.Units.{AreKept, but_last, IsBroken, IsUnitsFault}
+use Rattle.program_reader.specs.Audio.{taken_of, HasFrames, IsStreamRefused, bad_packet, bad_frames, HaveFrames, IsAudioFault, IsDue, ArePieces, placed_pieces, AreAudioSources}
 use Rattle.program_reader.specs.Programs as programs
 use Rattle.program_reader.specs.Programs.{
+  HasFewPackets,
   video_bytes,
   video_packets,
   HasUnits,
@@ -296,10 +240,11 @@ base_one start earliest a b is is' = from_rounds ((earliest -ℤ pos start)) a b
 due_one : (start : ℕ) (earliest time : ℤ) (a b : ℕ) → IsDue start earliest time a → IsDue start earliest time b → a ≡ b
 due_one start earliest time a b is is' = let same : pos a ≡ pos b = is ∙ sym is' in cc
 
-same_source : (a b : UnitSource) → a.begin ≡ b.begin → a.end ≡ b.end → a.times ≡ b.times → a.due ≡ b.due → a ≡ b
-same_source a b begins ends times dues =
-    ap₂ (λ (x y : ℕ). record { begin = x; end = y; times = a.times; due = a.due }) begins ends
-    ∙ ap₂ (λ (t : Times) (d : ℕ). record { begin = b.begin; end = b.end; times = t; due = d }) times dues
+same_source : (a b : UnitSource) → a.begin ≡ b.begin → a.end ≡ b.end → a.times ≡ b.times → a.due ≡ b.due → a.kind ≡ b.kind → a.role ≡ b.role → a ≡ b
+same_source a b begins ends times dues kinds roles =
+    ap₂ (λ (x y : ℕ). record { begin = x; end = y; times = a.times; due = a.due; kind = a.kind; role = a.role }) begins ends
+    ∙ ap₂ (λ (t : Times) (d : ℕ). record { begin = b.begin; end = b.end; times = t; due = d; kind = a.kind; role = a.role }) times dues
+    ∙ ap₂ (λ (k : ℕ) (r : Role). record { begin = b.begin; end = b.end; times = b.times; due = b.due; kind = k; role = r }) kinds roles
 
 unit_sources_one : (start : ℕ) (earliest : ℤ) (units : List (ℕ × ℕ)) (ps : List TimedPicture) (a b : List UnitSource) → AreUnitSources start earliest units ps a →
     AreUnitSources start earliest units ps b → a ≡ b
@@ -312,8 +257,8 @@ unit_sources_one start earliest (u ∷ us) (p ∷ ps) [] b are are' = absurd are
 unit_sources_one start earliest (u ∷ us) (p ∷ ps) (x ∷ xs) [] are are' = absurd are'
 unit_sources_one start earliest (u ∷ us) (p ∷ ps) (x ∷ xs) (y ∷ ys) are are' =
     ap₂ (λ (z : UnitSource) (zs : List UnitSource). z ∷ zs)
-    (same_source x y (are.0 ∙ sym are'.0) (are.1 ∙ sym are'.1) (are.2 ∙ sym are'.2) (due_one start earliest p.ticks x.due y.due are.3 are'.3))
-    (unit_sources_one start earliest us ps xs ys are.4 are'.4)
+    (same_source x y (are.0 ∙ sym are'.0) (are.1 ∙ sym are'.1) (are.2 ∙ sym are'.2) (due_one start earliest p.ticks x.due y.due are.3 are'.3) (are.4 ∙ sym are'.4) (are.5 ∙ sym are'.5))
+    (unit_sources_one start earliest us ps xs ys are.6 are'.6)
 
 same_piece : (a b : AudioPiece) → a.packet.due ≡ b.packet.due → a.packet.gone ≡ b.packet.gone → a.packet.bytes ≡ b.packet.bytes → a.start ≡ b.start → a.at ≡ b.at → a ≡ b
 same_piece a b dues gones sizes starts ats =
@@ -513,21 +458,35 @@ module _ (file : List ℕ) (number : ℕ) (drop : List ℕ) where
       let same : is.demuxed ≡ is'.demuxed = demux_answers.one_demuxed file number drop is.demuxed is'.demuxed is.demuxed_is is'.demuxed_is in
       program_one start is'.demuxed a b (subst (λ (d : Demuxed). IsProgram start d a) same is.program_is) is'.program_is
 
+  same_packets : (demuxed demuxed' : Demuxed) → IsDemuxed file number drop demuxed → IsDemuxed file number drop demuxed' → HasFewPackets demuxed → HasFewPackets demuxed'
+  same_packets demuxed demuxed' is is' few = subst (λ (d : Demuxed). HasFewPackets d) (demux_answers.one_demuxed file number drop demuxed demuxed' is is') few
+
   pub one_refusal : (a b : ProgramFault) → a ≢ OutOfMemory → b ≢ OutOfMemory → IsProgramRefused file number drop a → IsProgramRefused file number drop b → a ≡ b
   one_refusal a b some some' (programs.memory e) is' = absurd (some e)
   one_refusal a b some some' is (programs.memory e) = absurd (some' e)
   one_refusal a b some some' (programs.long far e) (programs.long far' e') = e ∙ sym e'
   one_refusal a b some some' (programs.long far e) (programs.stream found within is e') = absurd (omega (arith, far, within))
-  one_refusal a b some some' (programs.long far e) (programs.taken_out demuxed within is refused) = absurd (omega (arith, far, within))
+  one_refusal a b some some' (programs.long far e) (programs.many_packets demuxed within is many e') = absurd (omega (arith, far, within))
+  one_refusal a b some some' (programs.long far e) (programs.taken_out demuxed within is few refused) = absurd (omega (arith, far, within))
   one_refusal a b some some' (programs.stream found within is e) (programs.long far e') = absurd (omega (arith, far, within))
   one_refusal a b some some' (programs.stream found within is e) (programs.stream found' within' is' e') =
       e ∙ ap of_demux (demux_answers.one_refusal file number drop found found' (known_demux a found some e) (known_demux b found' some' e') is is') ∙ sym e'
-  one_refusal a b some some' (programs.stream found within is e) (programs.taken_out demuxed within' is' refused) =
+  one_refusal a b some some' (programs.stream found within is e) (programs.many_packets demuxed within' is' many e') =
       absurd (known_demux a found some e (demux_answers.never_both file number drop demuxed found is' is))
-  one_refusal a b some some' (programs.taken_out demuxed within is refused) (programs.long far e) = absurd (omega (arith, far, within))
-  one_refusal a b some some' (programs.taken_out demuxed within is refused) (programs.stream found within' is' e) =
+  one_refusal a b some some' (programs.stream found within is e) (programs.taken_out demuxed within' is' few refused) =
+      absurd (known_demux a found some e (demux_answers.never_both file number drop demuxed found is' is))
+  one_refusal a b some some' (programs.many_packets demuxed within is many e) (programs.long far e') = absurd (omega (arith, far, within))
+  one_refusal a b some some' (programs.many_packets demuxed within is many e) (programs.stream found within' is' e') =
+      absurd (known_demux b found some' e' (demux_answers.never_both file number drop demuxed found is is'))
+  one_refusal a b some some' (programs.many_packets demuxed within is many e) (programs.many_packets demuxed' within' is' many' e') = e ∙ sym e'
+  one_refusal a b some some' (programs.many_packets demuxed within is many e) (programs.taken_out demuxed' within' is' few refused) =
+      absurd (many (same_packets demuxed' demuxed is' is few))
+  one_refusal a b some some' (programs.taken_out demuxed within is few refused) (programs.long far e) = absurd (omega (arith, far, within))
+  one_refusal a b some some' (programs.taken_out demuxed within is few refused) (programs.stream found within' is' e) =
       absurd (known_demux b found some' e (demux_answers.never_both file number drop demuxed found is is'))
-  one_refusal a b some some' (programs.taken_out demuxed within is refused) (programs.taken_out demuxed' within' is' refused') =
+  one_refusal a b some some' (programs.taken_out demuxed within is few refused) (programs.many_packets demuxed' within' is' many e) =
+      absurd (many (same_packets demuxed demuxed' is is' few))
+  one_refusal a b some some' (programs.taken_out demuxed within is few refused) (programs.taken_out demuxed' within' is' few' refused') =
       let same : demuxed ≡ demuxed' = demux_answers.one_demuxed file number drop demuxed demuxed' is is' in
       demuxed_refused_one demuxed' a b some some' (subst (λ (d : Demuxed). IsDemuxedRefused d a) same refused) refused'
 
@@ -535,7 +494,8 @@ module _ (file : List ℕ) (number : ℕ) (drop : List ℕ) where
   either start program fault some is (programs.memory e) = some e
   either start program fault some is (programs.long far e) = omega (arith, far, is.within)
   either start program fault some is (programs.stream found within is' e) = known_demux fault found some e (demux_answers.never_both file number drop is.demuxed found is.demuxed_is is')
-  either start program fault some is (programs.taken_out demuxed within is' refused) =
+  either start program fault some is (programs.many_packets demuxed within is' many e) = many (same_packets is.demuxed demuxed is.demuxed_is is' is.few_packets)
+  either start program fault some is (programs.taken_out demuxed within is' few refused) =
       let same : demuxed ≡ is.demuxed = demux_answers.one_demuxed file number drop demuxed is.demuxed is' is.demuxed_is in
       refused_or_program is.demuxed start program fault some (subst (λ (d : Demuxed). IsDemuxedRefused d fault) same refused) is.program_is
 

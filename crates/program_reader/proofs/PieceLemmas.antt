@@ -161,7 +161,7 @@ pieces_left start earliest frames left packet at k old new count some so_far = �
     end_of : (from end len k later : ℕ) → k ≡ (len + (end - from) + (184 - 1)) / 184 → from < end → end ≤ later → from + (min (184 * k) (len + (end - from)) - 1 - len) ≤ later
     end_of from end len k later count some le = omega arith
 
-pub count_small : (size k count : ℕ) → size < 2 ^ 33 → k < count → count ≡ (size + (184 - 1)) / 184 → 184 * k < 18446744073709551616
+pub count_small : (size k count : ℕ) → size < 2 ^ 42 → k < count → count ≡ (size + (184 - 1)) / 184 → 184 * k < 18446744073709551616
 count_small size k count small lt is = omega arith
 
 pub count_inside : (size k count : ℕ) → k < count → count ≡ (size + (184 - 1)) / 184 → 184 * k < size
@@ -180,7 +180,7 @@ bytes_of (packet ∷ packets) = packet_size packet + bytes_of packets
 pub record PacketsSoFar (start : ℕ) (earliest : ℤ) (frames : List Frame) (packets : List PlacedPacket) (i at : ℕ) (left : List Frame) (pieces : List AudioPiece) : Type 0 where
   pub are : ArePieces start earliest frames (placed_pieces 0 (take i packets)) pieces
   pub at_is : at ≡ bytes_of (take i packets)
-  pub small : at ≤ i * 8589934592
+  pub small : at ≤ i * 4398046511104
   pub from : ℕ
   pub follow : Follow from (drop i packets)
   pub tells : TellsFrom from frames left
@@ -238,7 +238,7 @@ pub record NextPacket (earliest : ℤ) (left : List Frame) (packets : List Place
   pub follow : Follow packet.end (drop (i + 1) packets)
 
 pub next_packet : (start : ℕ) (earliest : ℤ) (frames left : List Frame) (packets : List PlacedPacket) (i at : ℕ) (pieces : List AudioPiece) (d : PlacedPacket) → i < length packets →
-    length packets ≤ 2855696 → All (HasTimes earliest frames) packets →
+    length packets ≤ 4000000 → All (HasTimes earliest frames) packets →
     (so_far : PacketsSoFar start earliest frames packets i at left pieces) → NextPacket earliest left packets i at so_far.from (get_or packets i d)
 next_packet start earliest frames left packets i at pieces d lt few times so_far =
     let packet = get_or packets i d in
@@ -252,12 +252,12 @@ next_packet start earliest frames left packets i at pieces d lt few times so_far
       follow = follow.3;
     }
   where
-    small : (at i : ℕ) → at ≤ i * 8589934592 → i < 2855696 → at < 2 ^ 60
+    small : (at i : ℕ) → at ≤ i * 4398046511104 → i < 4000000 → at + 2 ^ 42 < 2 ^ 64
     small at i le lt = omega arith
 
 pub packets_more : (start : ℕ) (earliest : ℤ) (frames left behind : List Frame) (packets : List PlacedPacket) (i at size : ℕ) (old new : List AudioPiece) (d : PlacedPacket) →
     i < length packets → (so_far : PacketsSoFar start earliest frames packets i at left old) → NextPacket earliest left packets i at so_far.from (get_or packets i d) →
-    size ≡ packet_size (get_or packets i d) → size < 2 ^ 33 → AddsPieces start earliest left (get_or packets i d) at old new → TellsFrom (get_or packets i d).end left behind →
+    size ≡ packet_size (get_or packets i d) → size < 2 ^ 42 → AddsPieces start earliest left (get_or packets i d) at old new → TellsFrom (get_or packets i d).end left behind →
     PacketsSoFar start earliest frames packets (i + 1) (at + size) behind new
 packets_more start earliest frames left behind packets i at size old new d lt so_far next size_is small adds tells =
     let packet = get_or packets i d in
@@ -280,7 +280,7 @@ packets_more start earliest frames left behind packets i at size old new d lt so
     sum : (at size bytes more : ℕ) → at ≡ bytes → size ≡ more → at + size ≡ bytes + more
     sum at size bytes more a s = omega arith
 
-    bound : (at size i : ℕ) → at ≤ i * 8589934592 → size < 2 ^ 33 → at + size ≤ (i + 1) * 8589934592
+    bound : (at size i : ℕ) → at ≤ i * 4398046511104 → size < 2 ^ 42 → at + size ≤ (i + 1) * 4398046511104
     bound at size i le lt = omega arith
 
 pub packets_all : (start : ℕ) (earliest : ℤ) (frames left : List Frame) (packets : List PlacedPacket) (i at : ℕ) (pieces : List AudioPiece) → length packets ≤ i →

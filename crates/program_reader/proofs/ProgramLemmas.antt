@@ -44,10 +44,10 @@ use Rattle.std.proofs.Common.{
   ℤ,
   ◌≤ℤ◌,
 }
-use Rattle.std.specs.List.{flat_map, sum_by}
+use Rattle.std.specs.List.{sum_by}
 use Rattle.std.specs.Option.{option_map}
 use Rattle.std.proofs.lemmas.List.{take_more, append-nil, length-map}
-use Rattle.std.proofs.lemmas.List.Elements.{All-cons, All-tail, All-nil, All-append, All-map, All-contains, Contains-get_or, Contains-append_left, Contains-append_right}
+use Rattle.std.proofs.lemmas.List.Elements.{All-cons, All-nil, All-append, All-map, All-contains, Contains-get_or, Contains-append_left, Contains-append_right}
 use Rattle.std.proofs.lemmas.List.Folds.{flat_map-map}
 use Rattle.std.proofs.lemmas.List.Sums.{sum_by-cons}
 use Rattle.std.proofs.lemmas.Grind.{flat_map-append}
@@ -77,26 +77,12 @@ use Rattle.program_reader.specs.declared.timed_picture.TimedPicture.{TimedPictur
 use Rattle.program_reader.specs.declared.video_stream.ReadVideo.{ReadVideo}
 use Rattle.program_reader.specs.Audio.{IsAudioFault, IsDue, AreAudioSources}
 use Rattle.program_reader.specs.Packets.{IsPacketFault, taken, packets_dropped, joined, placed_from}
-use Rattle.program_reader.specs.Programs.{
-  video_bytes,
-  video_packets,
-  HasUnits,
-  HasNoSequence,
-  HasPictures,
-  all_times,
-  IsEarliest,
-  IsBase,
-  AreUnitSources,
-  IsProgram,
-  all_packets_dropped,
-  IsDemuxedRefused,
-  IsProgramRefused,
-}
+use Rattle.program_reader.specs.Programs.{HasFewPackets, video_bytes, video_packets, HasUnits, HasNoSequence, all_times, IsEarliest, IsBase, AreUnitSources, IsProgram, all_packets_dropped, IsDemuxedRefused, IsProgramRefused}
 use Rattle.program_reader.specs.Units.{AreInOrder, AreKept, all, but_last, last_of, IsBroken, IsUnitsFault}
-use Rattle.program_reader.specs.Private.AudioStarts.{IsNear, IsStreamRead, AreStreamsRead}
-use Rattle.program_reader.specs.Private.Dues.{IsTime, IsTimeFrom, Lowers, IsDueUnit, AreDueUnits}
-use Rattle.program_reader.specs.Private.KeptUnits.{IsVideo, Fits, row_of, AreRows, first_of, Keep, AreUnitsKept}
-use Rattle.program_reader.specs.Private.Sources.{IsVideoRead, IsStreamFrom, AreStreamsFrom, frame_times, read_times}
+use Rattle.program_reader.specs.Private.AudioStarts.{IsNear, AreStreamsRead}
+use Rattle.program_reader.specs.Private.Dues.{IsTime, IsTimeFrom, Lowers, AreDueUnits}
+use Rattle.program_reader.specs.Private.KeptUnits.{IsVideo, AreRows, first_of, AreUnitsKept}
+use Rattle.program_reader.specs.Private.Sources.{IsVideoRead, AreStreamsFrom, frame_times, read_times}
 use Rattle.program_reader.specs.Private.TakenPackets.{AreTaken}
 use Rattle.program_reader.proofs.DueLemmas.{lowers_both}
 use Rattle.program_reader.proofs.StreamLemmas.{bytes_in, taken_bytes, taken_count, placed_count}
@@ -232,6 +218,8 @@ unit_sources start earliest (u ∷ us) (p ∷ ps) (r ∷ rs) (s ∷ ss) are due 
   due.0.end ∙ ap (λ (row : KeptUnit). row.end) are.0,
   due.0.times ∙ ap (λ (row : KeptUnit). row.times) are.0,
   subst (λ (row : KeptUnit). IsDue start earliest row.ticks s.due) are.0 due.0.due,
+  due.0.kind ∙ ap (λ (row : KeptUnit). row.kind) are.0,
+  due.0.role ∙ ap (λ (row : KeptUnit). row.role) are.0,
   unit_sources start earliest us ps rs ss are.1 due.1,
 )
 
@@ -279,7 +267,7 @@ all_dropped demuxed video streams audios is are sum =
 
 -- ---- the video
 
-pub video_is : (held : TakenPackets) (units : List PesUnit) → AreTaken true units held → length units ≤ 2855696 → bytes_in units < 1073741824 → IsVideo held
+pub video_is : (held : TakenPackets) (units : List PesUnit) → AreTaken true units held → length units ≤ 4000000 → bytes_in units ≤ 1099511627776 → IsVideo held
 video_is held units are few small = record {
   packets = taken true units;
   holds = are.holds;
@@ -398,7 +386,7 @@ or_memory demuxed (Err fault) is = inr is
 
 pub program_is : (start : ℕ) (demuxed : Demuxed) (video : ReadVideo) (streams : List ReadStream) (clock : DueClock) (rows : List KeptUnit) (given : List AudioStream) (base : ℕ) (bytes : List ℕ)
     (units : List UnitSource) (audios : List AudioSource) (dropped : ℕ) → IsVideoRead demuxed video → AreStreamsRead video.first.stated demuxed.audios streams →
-    IsClockOf demuxed video streams clock.earliest → clock.start ≡ start → length video.units.items ≤ 32768 → IsBase clock.start clock.earliest base → bytes ≡ video.taken.payload.items →
+    IsClockOf demuxed video streams clock.earliest → clock.start ≡ start → length video.units.items ≤ 4194304 → IsBase clock.start clock.earliest base → bytes ≡ video.taken.payload.items →
     rows ≡ video.units.items → AreDueUnits clock.start clock.earliest rows units → given ≡ demuxed.audios →
     AreAudioSources clock.start clock.earliest given (map (λ one. one.frames) streams) audios → dropped ≡ sum_by (λ one. one.dropped) streams → IsProgram start demuxed (record {
       map = demuxed.map;
@@ -459,14 +447,14 @@ streams_here demuxed video streams first read given streams_are first_is same ar
     (subst (λ (t : ℤ). AreStreamsRead t demuxed.audios read) first_is (subst (λ (ss : List AudioStream). AreStreamsRead first ss read) streams_are are))
 
 pub too_many : (demuxed : Demuxed) (video : ReadVideo) (read : List ReadStream) (units : List KeptUnit) → IsVideoRead demuxed video → AreStreamsRead video.first.stated demuxed.audios read →
-    units ≡ video.units.items → 32768 < length units → IsDemuxedRefused demuxed (Refused kinds.ProgramLimit 0)
+    units ≡ video.units.items → 4194304 < length units → IsDemuxedRefused demuxed (Refused kinds.ProgramLimit 0)
 too_many demuxed video read units is are units_are many =
     let count : length units ≡ length video.units.items = ap (λ (us : List KeptUnit). length us) units_are in
-    let more : 32768 < length is.kept = omega (arith, count, rows_count is.kept is.pictures video.units.items is.rows, many) in
+    let more : 4194304 < length is.kept = omega (arith, count, rows_count is.kept is.pictures video.units.items is.rows, many) in
     IsDemuxedRefused.many_units is.kept video.first is.pictures video.units_dropped (map (λ one. one.frames) read) is.has_pictures
     (have_frames video.first.stated demuxed.audios read are) more refl
 
-pub taken_out : (file : List ℕ) (number : ℕ) (drop : List ℕ) (demuxed : Demuxed) (fault : ProgramFault) → length file ≤ FILE_BYTES_MOST → IsDemuxed file number drop demuxed →
+pub taken_out : (file : List ℕ) (number : ℕ) (drop : List ℕ) (demuxed : Demuxed) (fault : ProgramFault) → length file ≤ FILE_BYTES_MOST → IsDemuxed file number drop demuxed → HasFewPackets demuxed →
     (fault ≡ OutOfMemory) ⊎ IsDemuxedRefused demuxed fault → IsProgramRefused file number drop fault
-taken_out file number drop demuxed fault within is (inl memory) = IsProgramRefused.memory memory
-taken_out file number drop demuxed fault within is (inr refused) = IsProgramRefused.taken_out demuxed within is refused
+taken_out file number drop demuxed fault within is few (inl memory) = IsProgramRefused.memory memory
+taken_out file number drop demuxed fault within is few (inr refused) = IsProgramRefused.taken_out demuxed within is few refused

@@ -1,55 +1,20 @@
 -- How much the packets of a PID carry.
-use Rattle.std.proofs.Common.{
-  ◌≡◌,
-  ℕ,
-  suc,
-  ◌+◌,
-  ◌-◌,
-  ◌*◌,
-  ◌/◌,
-  ◌<◌,
-  ◌≤◌,
-  Bool,
-  true,
-  false,
-  cond,
-  List,
-  [],
-  ◌∷◌,
-  ◌++◌,
-  length,
-  map,
-  filter,
-  take,
-  drop,
-  get_or,
-  All,
-  Option,
-  Some,
-  None,
-  refl,
-  sym,
-  ap,
-  ◌∙◌,
-  subst,
-  arith,
-}
-use Rattle.std.specs.List.{sum_by, filter_map, cons_option, range_with_len}
+use Rattle.std.proofs.Common.{◌≡◌, ℕ, suc, ◌+◌, ◌-◌, ◌*◌, ◌/◌, ◌≤◌, Bool, true, false, cond, List, [], ◌∷◌, ◌++◌, length, map, filter, drop, get_or, All, Option, Some, None, refl, ap, ◌∙◌, subst, arith}
+use Rattle.std.specs.List.{sum_by, filter_map, range_with_len}
 use Rattle.std.specs.Option.{is_none}
 use Rattle.std.proofs.lemmas.List.{length-append, length-drop, length-take}
 use Rattle.std.proofs.lemmas.List.Elements.{All-map, All-cons, All-nil, All-tail}
 use Rattle.std.proofs.lemmas.List.FromFn.{length-range_with_len}
 use Rattle.std.proofs.lemmas.List.Sums.{sum_by-cons}
-use Rattle.stream_constants.specs.declared.packets.TheConstants.{PACKET_BYTES}
 use Rattle.bit_lists.specs.Payload.{CarriedPayload, is_start}
 use Rattle.pes_units.specs.PesPackets.{Gathered, up_to_start, gathered}
 use Rattle.psi_tables.specs.declared.stream.Stream.{Stream}
 use Rattle.ts_demux.specs.declared.demuxed.AudioStream.{AudioStream}
 use Rattle.ts_demux.specs.declared.demuxed.PesUnit.{PesUnit}
-use Rattle.ts_demux.specs.Demux.{units_in, pes_packets_on}
+use Rattle.ts_demux.specs.Demux.{pes_packets_on}
 use Rattle.ts_packets.specs.Carried.{PlacedPacket, placed, has_payload, payload_packets, is_repeat, not_repeated, without_repeats, carried_by, carried}
 use Rattle.ts_packets.specs.Packet.{PacketRecord, packet_of, transport_refusal, fields_of, has_field, adaptation_field_length}
-use Rattle.ts_packets.specs.TransportStream.{Piece, piece_at, piece_count, is_of_pid, pid_pieces}
+use Rattle.ts_packets.specs.TransportStream.{Piece, piece_count, is_of_pid, pid_pieces}
 use Rattle.ts_demux.specs.Tables.{piece as piece_of}
 
 -- ---- PES packets of payloads
@@ -61,15 +26,6 @@ payload_bytes (c ∷ cs) = length c.payload.bytes + payload_bytes cs
 abbrev gathered_bytes : List Gathered → ℕ
 gathered_bytes [] = 0
 gathered_bytes (g ∷ gs) = length g.bytes + gathered_bytes gs
-
-gathered_count : (cs : List CarriedPayload) → length (gathered cs) ≤ length cs
-gathered_count [] = omega arith
-gathered_count (c ∷ cs) = by_start (is_start c.payload) (gathered_count cs)
-  where
-    by_start : (start : Bool) → length (gathered cs) ≤ length cs →
-        length (cond start (record { at = c.at; bytes = c.payload.bytes ++ up_to_start cs } ∷ gathered cs) (gathered cs)) ≤ suc (length cs)
-    by_start true rest = omega (arith, rest)
-    by_start false rest = omega (arith, rest)
 
 gathered_size : (cs : List CarriedPayload) → gathered_bytes (gathered cs) + length (up_to_start cs) ≤ payload_bytes cs
 gathered_size [] = omega arith
@@ -90,10 +46,6 @@ packet_bytes (p ∷ ps) = length p.packet.payload + packet_bytes ps
 carried_bytes : (ps : List PlacedPacket) → payload_bytes (map carried_by ps) ≡ packet_bytes ps
 carried_bytes [] = refl
 carried_bytes (p ∷ ps) = ap (λ (n : ℕ). length p.packet.payload + n) (carried_bytes ps)
-
-carried_count : (ps : List PlacedPacket) → length (map carried_by ps) ≡ length ps
-carried_count [] = refl
-carried_count (p ∷ ps) = ap suc (carried_count ps)
 
 abbrev IsLess : List PlacedPacket → List PlacedPacket → Type 0
 IsLess ps qs = (length ps ≤ length qs) × (packet_bytes ps ≤ packet_bytes qs)
@@ -177,14 +129,10 @@ units_bytes (g ∷ gs) =
     sum_by-cons (λ (packet : PesUnit). length packet.bytes) (unit_of g) (map unit_of gs)
     ∙ ap (λ (n : ℕ). length g.bytes + n) (units_bytes gs)
 
-units_count : (gs : List Gathered) → length (map unit_of gs) ≡ length gs
-units_count [] = refl
-units_count (g ∷ gs) = ap suc (units_count gs)
-
 abbrev pub IsSmall : List PesUnit → Type 0
-IsSmall units = (length units ≤ 2855696) × (sum_by (λ packet. length packet.bytes) units < 1073741824)
+IsSmall units = sum_by (λ packet. length packet.bytes) units ≤ 1099511627776
 
-pub stream_small : (file : List ℕ) (stream : Stream) → length file ≤ 536870912 → IsSmall (pes_packets_on file stream).units
+pub stream_small : (file : List ℕ) (stream : Stream) → length file ≤ 1099511627776 → IsSmall (pes_packets_on file stream).units
 stream_small file stream within =
     let pieces = pid_pieces file stream.pid 0 (piece_count file) in
     let ks = filter (is_of_pid file stream.pid) (range_with_len 0 (piece_count file - 0)) in
@@ -196,10 +144,9 @@ stream_small file stream within =
     let full = filter_less (filter_map placed pieces) in
     let once = repeats_less (payload_packets pieces) in
     let cs = carried pieces in
-    let cs_few : length cs ≤ piece_count file = omega (arith, carried_count (without_repeats (payload_packets pieces)), once.0, full.0, all.0, few) in
     let cs_bytes : payload_bytes cs ≤ 188 * piece_count file = omega (arith, carried_bytes (without_repeats (payload_packets pieces)), once.1, full.1, all.1, few) in
-    (omega (arith, units_count (gathered cs), gathered_count cs, cs_few, count, within), omega (arith, units_bytes (gathered cs), gathered_size cs, cs_bytes, count, within))
+    omega (arith, units_bytes (gathered cs), gathered_size cs, cs_bytes, count, within)
 
-pub audios_small : (file : List ℕ) (streams : List Stream) → length file ≤ 536870912 → All (λ (stream : AudioStream). IsSmall stream.units) (map (pes_packets_on file) streams)
+pub audios_small : (file : List ℕ) (streams : List Stream) → length file ≤ 1099511627776 → All (λ (stream : AudioStream). IsSmall stream.units) (map (pes_packets_on file) streams)
 audios_small file streams within =
     All-map (λ (stream : AudioStream). IsSmall stream.units) (pes_packets_on file) streams (λ k d lt. stream_small file (get_or streams k d) within)

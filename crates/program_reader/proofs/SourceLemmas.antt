@@ -1,42 +1,5 @@
 -- Audio streams that are read give sources.
-use Rattle.std.proofs.Common.{
-  ◌≡◌,
-  ℕ,
-  zero,
-  suc,
-  ◌+◌,
-  ◌-◌,
-  ◌^◌,
-  ◌<◌,
-  ◌≤◌,
-  nat_lt,
-  Bool,
-  true,
-  false,
-  cond,
-  List,
-  [],
-  ◌∷◌,
-  ◌++◌,
-  length,
-  take,
-  drop,
-  map,
-  get_or,
-  All,
-  Option,
-  None,
-  Some,
-  if◌then◌else◌,
-  refl,
-  sym,
-  ap,
-  ◌∙◌,
-  subst,
-  arith,
-  ℤ,
-  pos,
-}
+use Rattle.std.proofs.Common.{◌≡◌, ℕ, zero, suc, ◌+◌, ◌-◌, ◌<◌, ◌≤◌, nat_lt, Bool, true, false, cond, List, [], ◌∷◌, ◌++◌, length, take, drop, map, get_or, All, Some, if◌then◌else◌, refl, sym, ap, ◌∙◌, subst, arith, ℤ, pos}
 use Rattle.std.specs.List.{find, flat_map}
 use Rattle.std.specs.Option.{option_map_or}
 use Rattle.std.proofs.lemmas.Bool.{lt-ltb}
@@ -52,7 +15,7 @@ use Rattle.program_reader.specs.declared.pes_packets.PlacedPacket.{PlacedPacket}
 use Rattle.program_reader.specs.declared.program.AudioPiece.{AudioPiece}
 use Rattle.program_reader.specs.declared.program.AudioSource.{AudioSource}
 use Rattle.program_reader.specs.Packets.{taken, pes_payload_of, joined, placed_from}
-use Rattle.program_reader.specs.Audio.{time_of_byte, payload_place, packet_size, placed_pieces, ArePieces, IsAudioSource, AreAudioSources}
+use Rattle.program_reader.specs.Audio.{time_of_byte, payload_place, placed_pieces, ArePieces, IsAudioSource, AreAudioSources}
 use Rattle.program_reader.specs.Private.Dues.{IsTimeFrom}
 use Rattle.program_reader.specs.Private.Pieces.{Follow, HasTimes}
 use Rattle.program_reader.specs.Private.Sources.{IsStreamFrom, AreStreamsFrom}
@@ -105,7 +68,7 @@ placed_inside from size (p ∷ ps) all le =
     All-cons (IsInside size) (placed_at from p) (placed_from (from + length (pes_payload_of p)) ps) (omega (arith, some), omega (arith, sum, le))
     (placed_inside (from + length (pes_payload_of p)) size ps (All-tail HasPayload p ps all) (omega (arith, sum, le)))
 
-follow_of : (from : ℕ) (packets : List PesUnit) → All HasPayload packets → from + length (joined packets) < 4294967296 → Follow from (placed_from from packets)
+follow_of : (from : ℕ) (packets : List PesUnit) → All HasPayload packets → from + length (joined packets) < 2199023255552 → Follow from (placed_from from packets)
 follow_of from [] all lt = tt
 follow_of from (p ∷ ps) all lt =
     let some : HasPayload p = all 0 p (omega arith) in
@@ -124,13 +87,13 @@ taken_front video (p ∷ q ∷ ps) = ap (λ (xs : List PesUnit). p ∷ xs) (take
 -- what is asked of a stream's PES packets and frames
 pub record IsReady (earliest : ℤ) (stream : AudioStream) (placed : List PlacedPacket) (frames : List Frame) : Type 0 where
   pub follow : Follow 0 placed
-  pub few : length placed ≤ 2855696
+  pub few : length placed ≤ 4000000
   pub times : All (HasTimes earliest frames) placed
   pub count : length placed ≤ length stream.units
   pub front : take (length placed) stream.units ≡ taken false stream.units
 
 pub ready : (earliest : ℤ) (stream : AudioStream) (read : ReadStream) (placed : List PlacedPacket) (frames : List Frame) → placed ≡ read.packets.items → frames ≡ read.frames →
-    IsStreamFrom earliest stream read → length stream.units ≤ 2855696 → bytes_in stream.units < 1073741824 → IsReady earliest stream placed frames
+    IsStreamFrom earliest stream read → length stream.units ≤ 4000000 → bytes_in stream.units ≤ 1099511627776 → IsReady earliest stream placed frames
 ready earliest stream read placed frames placed_is frames_are is few small =
     let units = stream.units in
     let them = taken false units in

@@ -1,5 +1,5 @@
 -- The times of a picture are those of the stamp at its place, and stamps are looked up in order.
-use Rattle.std.proofs.Common.{◌≡◌, ℕ, zero, suc, ◌+◌, ◌-◌, ◌<◌, ◌≤◌, ◌==◌, Bool, true, false, List, [], ◌∷◌, ◌++◌, length, Option, Some, None, refl, sym, ap, ◌∙◌, subst, inl, inr, arith}
+use Rattle.std.proofs.Common.{◌≡◌, ℕ, suc, ◌+◌, ◌-◌, ◌<◌, ◌≤◌, ◌==◌, Bool, true, false, List, [], ◌∷◌, ◌++◌, length, Option, Some, None, refl, sym, ap, ◌∙◌, subst, inl, inr, arith}
 use Rattle.std.specs.List.{find, range_with_len}
 use Rattle.std.proofs.lemmas.Bool.{ne_eqb, eq-eqb, cases_eq}
 use Rattle.pes_units.specs.declared.times.Times.{Times}
@@ -8,7 +8,8 @@ use Rattle.ts_demux.specs.declared.demuxed.PesUnit.{PesUnit}
 use Rattle.program_reader.specs.declared.pes_packets.PlacedPacket.{PlacedPacket}
 use Rattle.program_reader.specs.declared.picture_times.StampedPicture.{StampedPicture}
 use Rattle.program_reader.specs.Packets.{pes_payload_of, placed_from}
-use Rattle.program_reader.specs.PictureTimes.{begins_picture, first_picture, no_times, times_at, times_of_unit}
+use Rattle.es_units.specs.Pictures.{begins_picture, first_picture}
+use Rattle.program_reader.specs.PictureTimes.{no_times, times_at, times_of_unit}
 use Rattle.program_reader.specs.Private.StampedPictures.{stamp_at, stamps_of, times_of_stamp, AreRising, Leaves, LeavesFrom, TellTimes, IsCounted}
 use Rattle.program_reader.proofs.PlaceLemmas.{found_from}
 use Rattle.program_reader.proofs.TakenLemmas.{placed_at}

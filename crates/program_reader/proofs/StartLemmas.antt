@@ -75,16 +75,16 @@ pub near_more : (time : ℤ) (n m : ℕ) → n ≤ m → IsNear n time → IsNea
 near_more time n m le near = record { low = low_more time n m le near.low; high = high_more time n m le near.high }
 
 -- near times are far from the ends of 54 bits
-pub near_low : (time : ℤ) (n : ℕ) → n ≤ 2855696 → IsNear n time → neg_ℤ (pos (2 ^ 54)) ≤ℤ time
+pub near_low : (time : ℤ) (n : ℕ) → n ≤ 4000000 → IsNear n time → neg_ℤ (pos (2 ^ 54)) ≤ℤ time
 near_low time n le near = far time n le near.low
   where
-    far : (b : ℤ) (n : ℕ) → n ≤ 2855696 → neg_ℤ (pos (8589934592 + n * 4294967296)) ≤ℤ b → neg_ℤ (pos 18014398509481984) ≤ℤ b
+    far : (b : ℤ) (n : ℕ) → n ≤ 4000000 → neg_ℤ (pos (8589934592 + n * 4294967296)) ≤ℤ b → neg_ℤ (pos 18014398509481984) ≤ℤ b
     far b n le near = omega (arith, ints)
 
-pub near_high : (time : ℤ) (n : ℕ) → n ≤ 2855696 → IsNear n time → time ≤ℤ pos (2 ^ 54)
+pub near_high : (time : ℤ) (n : ℕ) → n ≤ 4000000 → IsNear n time → time ≤ℤ pos (2 ^ 54)
 near_high time n le near = far time n le near.high
   where
-    far : (b : ℤ) (n : ℕ) → n ≤ 2855696 → b ≤ℤ pos (8589934592 + n * 4294967296) → b ≤ℤ pos 18014398509481984
+    far : (b : ℤ) (n : ℕ) → n ≤ 4000000 → b ≤ℤ pos (8589934592 + n * 4294967296) → b ≤ℤ pos 18014398509481984
     far b n le near = omega (arith, ints)
 
 -- the time in force behind a packet, and that of the packet, if it has one
@@ -104,22 +104,22 @@ pub record Begun (first : ℤ) (packets : List PlacedPacket) (i : ℕ) (starts :
   pub starts_are : AreStartsOf first (take i packets) starts
   pub before_is : before ≡ last_time first starts
   pub near : IsNear i before
-  pub all_near : All (λ start. IfSome start.time (IsNear 2855696)) starts
+  pub all_near : All (λ start. IfSome start.time (IsNear 4000000)) starts
 
 pub begun_step : (first : ℤ) (packets : List PlacedPacket) (i : ℕ) (d : PlacedPacket) (starts news : List PesStart) (start : PesStart) (before after : ℤ) → i < length packets →
-    length packets ≤ 2855696 → start.at ≡ (get_or packets i d).from → IsPlacedTime before (decoding_time (get_or packets i d).header.times) start.time →
+    length packets ≤ 4000000 → start.at ≡ (get_or packets i d).from → IsPlacedTime before (decoding_time (get_or packets i d).header.times) start.time →
     after ≡ unwrap_or start.time before → news ≡ starts ++ start ∷ [] → Begun first packets i starts before → Begun first packets (i + 1) news after
 begun_step first packets i d starts news start before after lt few at time is_after pushed begun =
     let packet = get_or packets i d in
     let more : take (i + 1) packets ≡ take i packets ++ packet ∷ [] = take_more packets i d lt in
     let placed : IsPlacedTime (last_time first starts) (decoding_time packet.header.times) start.time =
     subst (λ (t : ℤ). IsPlacedTime t (decoding_time packet.header.times) start.time) begun.before_is time in
-    let le : i + 1 ≤ 2855696 = omega arith in record {
+    let le : i + 1 ≤ 4000000 = omega arith in record {
       starts_are = subst (λ (all : List PesStart). AreStartsOf first (take (i + 1) packets) all) (sym pushed)
           (subst (λ (ps : List PlacedPacket). AreStartsOf first ps (starts ++ start ∷ [])) (sym more) (starts_push first (take i packets) starts packet start begun.starts_are at placed));
       before_is = is_after ∙ ap (λ (t : ℤ). unwrap_or start.time t) begun.before_is ∙ sym (last_push first starts start) ∙ ap (last_time first) (sym pushed);
       near = subst (IsNear (i + 1)) (sym is_after) (near_behind before (decoding_time packet.header.times) start.time i begun.near time);
-      all_near = subst (λ (all : List PesStart). All (λ start. IfSome start.time (IsNear 2855696)) all) (sym pushed)
-          (All-push (λ start. IfSome start.time (IsNear 2855696)) starts start begun.all_near
-          (near_start before (decoding_time packet.header.times) start.time i 2855696 le begun.near time));
+      all_near = subst (λ (all : List PesStart). All (λ start. IfSome start.time (IsNear 4000000)) all) (sym pushed)
+          (All-push (λ start. IfSome start.time (IsNear 4000000)) starts start begun.all_near
+          (near_start before (decoding_time packet.header.times) start.time i 4000000 le begun.near time));
     }

@@ -165,12 +165,12 @@ first_start before [] starts are some = absurd (omega arith)
 first_start before (p ∷ ps) [] are some = absurd are
 first_start before (p ∷ ps) (s ∷ ss) are some = (omega arith, are.0)
 
-near_range : (time : Option ℤ) → IfSome time (IsNear 2855696) → IfSome time (λ t. (neg_ℤ (pos (2 ^ 54)) ≤ℤ t) × (t ≤ℤ pos (2 ^ 54)))
+near_range : (time : Option ℤ) → IfSome time (IsNear 4000000) → IfSome time (λ t. (neg_ℤ (pos (2 ^ 54)) ≤ℤ t) × (t ≤ℤ pos (2 ^ 54)))
 near_range None near = tt
-near_range (Some t) near = (near_low t 2855696 (omega arith) near, near_high t 2855696 (omega arith) near)
+near_range (Some t) near = (near_low t 4000000 (omega arith) near, near_high t 4000000 (omega arith) near)
 
 pub are_starts : (first : ℤ) (packets : List PesUnit) (payload : List ℕ) (starts : List PesStart) → payload ≡ joined packets → AreStartsOf first (placed_from 0 packets) starts →
-    All HasPayload packets → AreNear 2855696 starts → AreStarts (length payload) starts
+    All HasPayload packets → AreNear 4000000 starts → AreStarts (length payload) starts
 are_starts first packets payload starts is are all near = rw is (record {
   first = first_start first packets starts are;
   rising = subst IsStrictlyIncreasing (sym (start_places first (placed_from 0 packets) starts are)) (places_rise 0 packets all);
@@ -182,10 +182,10 @@ are_starts first packets payload starts is are all near = rw is (record {
 -- ---- what is taken of a stream
 
 pub taken_few : (packets : List PesUnit) (held : TakenPackets) (placed : List PlacedPacket) → AreTaken false packets held → placed ≡ held.packets.items →
-    length packets ≤ 2855696 → length placed ≤ 2855696
+    length packets ≤ 4000000 → length placed ≤ 4000000
 taken_few packets held placed are is few =
-    let all : length (placed_from 0 (taken false packets)) ≤ 2855696 = omega (arith, placed_count 0 (taken false packets), taken_count false packets, few) in
-    subst (λ (xs : List PlacedPacket). length xs ≤ 2855696) (sym (is ∙ are.holds.placed)) all
+    let all : length (placed_from 0 (taken false packets)) ≤ 4000000 = omega (arith, placed_count 0 (taken false packets), taken_count false packets, few) in
+    subst (λ (xs : List PlacedPacket). length xs ≤ 4000000) (sym (is ∙ are.holds.placed)) all
 
 pub taken_times : (packets : List PesUnit) (held : TakenPackets) (placed : List PlacedPacket) → AreTaken false packets held → placed ≡ held.packets.items →
     All (λ packet. IsInRange (decoding_time packet.header.times)) placed
@@ -193,13 +193,13 @@ taken_times packets held placed are is =
     subst (λ (xs : List PlacedPacket). All (λ packet. IsInRange (decoding_time packet.header.times)) xs) (sym (is ∙ are.holds.placed)) (placed_times 0 (taken false packets))
 
 pub taken_size : (packets : List PesUnit) (held : TakenPackets) (payload : List ℕ) → AreTaken false packets held → payload ≡ held.payload.items →
-    bytes_in packets < 1073741824 → length payload < 1073741824
+    bytes_in packets ≤ 1099511627776 → length payload ≤ 1099511627776
 taken_size packets held payload are is small =
-    let all : length (joined (taken false packets)) < 1073741824 = omega (arith, taken_bytes false packets, small) in
-    subst (λ (xs : List ℕ). length xs < 1073741824) (sym (is ∙ are.holds.payload)) all
+    let all : length (joined (taken false packets)) ≤ 1099511627776 = omega (arith, taken_bytes false packets, small) in
+    subst (λ (xs : List ℕ). length xs ≤ 1099511627776) (sym (is ∙ are.holds.payload)) all
 
 pub taken_starts : (first : ℤ) (packets : List PesUnit) (held : TakenPackets) (placed : List PlacedPacket) (payload : List ℕ) (starts given : List PesStart) →
-    AreTaken false packets held → placed ≡ held.packets.items → payload ≡ held.payload.items → given ≡ starts → AreStartsOf first placed starts → AreNear 2855696 starts →
+    AreTaken false packets held → placed ≡ held.packets.items → payload ≡ held.payload.items → given ≡ starts → AreStartsOf first placed starts → AreNear 4000000 starts →
     AreStarts (length payload) given
 taken_starts first packets held placed payload starts given are placed_is payload_is same starts_are near =
     subst (λ (xs : List PesStart). AreStarts (length payload) xs) (sym same)
@@ -218,7 +218,7 @@ frames_refused first stream packets held placed payload starts given found fault
 
 pub stream_read : (first : ℤ) (stream : AudioStream) (packets : List PesUnit) (held : TakenPackets) (placed : List PlacedPacket) (payload : List ℕ) (starts given : List PesStart)
     (frames : List Frame) → packets ≡ stream.units → AreTaken false packets held → placed ≡ held.packets.items → payload ≡ held.payload.items → given ≡ starts →
-    AreStartsOf first placed starts → AreNear 2855696 starts → AreFramesOf payload given frames → length payload < 1073741824 →
+    AreStartsOf first placed starts → AreNear 4000000 starts → AreFramesOf payload given frames → length payload ≤ 1099511627776 →
     IsStreamRead first stream (record { packets = held.packets; dropped = held.dropped; frames = frames })
 stream_read first stream packets held placed payload starts given frames packets_are are placed_is payload_is same starts_are near frames_are small =
     let taken_is : taken false packets ≡ taken false stream.units = ap (taken false) packets_are in

@@ -1,9 +1,11 @@
 pub mod Faults
 pub mod Packets
 pub mod PictureTimes
+pub mod TimesWalk
 pub mod Intervals
 pub mod Units
 pub mod Audio
 pub mod Programs
+pub mod Carry
 pub mod Sizes
 pub mod Private

@@ -1,6 +1,7 @@
 pub mod AudioStarts
 pub mod Dues
 pub mod FrameWalk
+pub mod Frames
 pub mod KeptUnits
 pub mod Pieces
 pub mod SizedUnits
@@ -8,3 +9,4 @@ pub mod Sources
 pub mod StampedPictures
 pub mod TakenPackets
 pub mod TimedPictures
+pub mod TimesWalk

@@ -9,7 +9,7 @@ use Rattle.picture_grammar.specs.Refusal.{Refusal}
 use Rattle.ts_demux.specs.declared.demux_fault.DemuxFault.{DemuxFault}
 use Rattle.ts_demux.specs.declared.demuxed.Demuxed.{Demuxed}
 use Rattle.ts_demux.specs.Demux.{IsDemuxed, IsDemuxRefused}
-use Rattle.program_reader.specs.declared.limits.TheConstants.{FILE_BYTES_MOST, UNITS_MOST}
+use Rattle.program_reader.specs.declared.limits.TheConstants.{FILE_BYTES_MOST, PES_PACKETS_MOST, UNITS_MOST}
 use Rattle.program_reader.specs.declared.pes_packets.PlacedPacket.{PlacedPacket}
 use Rattle.program_reader.specs.declared.program.Program.{Program}
 use Rattle.program_reader.specs.declared.program.UnitSource.{UnitSource}
@@ -76,12 +76,12 @@ pub record IsBase (start : ℕ) (earliest : ℤ) (base : ℕ) : Type 0 where
 
 -- ---- the program
 
--- units with their times, one for each picture
+-- units with their times, one for each picture, which tell how it is coded (13818-2, 6.3.9) and what it is of its coded frame
 abbrev pub AreUnitSources : ℕ → ℤ → List (ℕ × ℕ) → List TimedPicture → List UnitSource → Type 0
 AreUnitSources start earliest [] [] [] = Unit {0}
 AreUnitSources start earliest (unit ∷ units) (picture ∷ pictures) (source ∷ sources) =
     (source.begin ≡ unit.0) × (source.end ≡ unit.1) × (source.times ≡ picture.times) × IsDue start earliest picture.ticks source.due
-    × AreUnitSources start earliest units pictures sources
+    × (source.kind ≡ picture.coding.kind) × (source.role ≡ picture.role) × AreUnitSources start earliest units pictures sources
 AreUnitSources start earliest units pictures sources = ⊥
 
 -- how many PES packets are dropped in all
@@ -109,11 +109,16 @@ pub record IsProgram (start : ℕ) (demuxed : Demuxed) (program : Program) : Typ
   pub rest_is : program.rest ≡ demuxed.rest
   pub not_carried_are : program.not_carried ≡ demuxed.not_carried
 
+-- no carried stream has more PES packets than a program may have of one
+abbrev pub HasFewPackets : Demuxed → Type 0
+HasFewPackets demuxed = (length demuxed.video ≤ PES_PACKETS_MOST) × All (λ stream. length stream.units ≤ PES_PACKETS_MOST) demuxed.audios
+
 -- the program of this number in a file, without the audio streams of some PIDs
 pub record IsProgramOfFile (file : List ℕ) (number : ℕ) (drop : List ℕ) (start : ℕ) (program : Program) : Type 0 where
   pub within : length file ≤ FILE_BYTES_MOST
   pub demuxed : Demuxed
   pub demuxed_is : IsDemuxed file number drop demuxed
+  pub few_packets : HasFewPackets demuxed
   pub program_is : IsProgram start demuxed program
 
 -- ---- what is refused
@@ -130,12 +135,14 @@ pub data IsDemuxedRefused (demuxed : Demuxed) (fault : ProgramFault) : Type 0 wh
       → HasPictures demuxed kept first pictures dropped → HaveFrames first.stated demuxed.audios frames → UNITS_MOST < length kept
       → fault ≡ Refused kinds.ProgramLimit 0 → IsDemuxedRefused demuxed fault
 
--- The first refusal of a file: its length; its transport packets and tables; then what is taken out of it. Want of memory may come
--- at any time.
+-- The first refusal of a file: its length; its transport packets and tables; the number of PES packets of a carried stream; then what is taken out of
+-- it. Want of memory may come at any time.
 pub data IsProgramRefused (file : List ℕ) (number : ℕ) (drop : List ℕ) (fault : ProgramFault) : Type 0 where
   long : FILE_BYTES_MOST < length file → fault ≡ Refused kinds.ProgramLimit 0 → IsProgramRefused file number drop fault
   stream : (found : DemuxFault) → length file ≤ FILE_BYTES_MOST → IsDemuxRefused file number drop found → fault ≡ of_demux found
       → IsProgramRefused file number drop fault
-  taken_out : (demuxed : Demuxed) → length file ≤ FILE_BYTES_MOST → IsDemuxed file number drop demuxed → IsDemuxedRefused demuxed fault
+  many_packets : (demuxed : Demuxed) → length file ≤ FILE_BYTES_MOST → IsDemuxed file number drop demuxed → ¬ HasFewPackets demuxed
+      → fault ≡ Refused kinds.ProgramLimit 0 → IsProgramRefused file number drop fault
+  taken_out : (demuxed : Demuxed) → length file ≤ FILE_BYTES_MOST → IsDemuxed file number drop demuxed → HasFewPackets demuxed → IsDemuxedRefused demuxed fault
       → IsProgramRefused file number drop fault
   memory : fault ≡ OutOfMemory → IsProgramRefused file number drop fault

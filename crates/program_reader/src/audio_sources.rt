@@ -7,7 +7,7 @@ ghost use Rattle.program_reader.specs.Private.Sources.{IsStreamFrom, AreStreamsF
 
 use crate::audio_stream::ReadStream;
 use crate::due::DueClock;
-use crate::limits::PACKETS_MOST;
+use crate::limits::{FILE_BYTES_MOST, PES_PACKETS_MOST};
 use crate::packet_bytes::packet_bytes;
 use crate::pieces::audio_pieces;
 use crate::program::AudioSource;
@@ -24,8 +24,8 @@ pub fn audio_sources(
     clock: &DueClock,
 ) -> Result<ListOf<AudioSource>, OutOfMemory>
     requires count { length streams.now ≤ AUDIOS_MOST }
-    requires few { All (λ stream. length stream.units ≤ PACKETS_MOST) streams.now }
-    requires size { All (λ stream. sum_by (λ packet. length packet.bytes) stream.units < 2 ^ 30) streams.now }
+    requires few { All (λ stream. length stream.units ≤ PES_PACKETS_MOST) streams.now }
+    requires size { All (λ stream. sum_by (λ packet. length packet.bytes) stream.units ≤ FILE_BYTES_MOST) streams.now }
     requires start { clock.now.start < 2 ^ 50 }
     requires earliest { IsTime clock.now.earliest }
     requires read { AreStreamsFrom clock.now.earliest streams.now read.now }
@@ -45,8 +45,8 @@ fn audio_source(
     read: &ReadStream,
     clock: &DueClock,
 ) -> Result<AudioSource, OutOfMemory>
-    requires few { length stream.now.units ≤ PACKETS_MOST }
-    requires size { sum_by (λ packet. length packet.bytes) stream.now.units < 2 ^ 30 }
+    requires few { length stream.now.units ≤ PES_PACKETS_MOST }
+    requires size { sum_by (λ packet. length packet.bytes) stream.now.units ≤ FILE_BYTES_MOST }
     requires start { clock.now.start < 2 ^ 50 }
     requires earliest { IsTime clock.now.earliest }
     requires read { IsStreamFrom clock.now.earliest stream.now read.now }

@@ -4,7 +4,7 @@ ghost use Rattle.pes_units.specs.Times.{decoding_time};
 ghost use Rattle.program_reader.specs.Audio.{IsPlacedTime, AreStartsOf};
 ghost use Rattle.program_reader.specs.Private.AudioStarts.{IsNear, AreNear};
 
-use crate::limits::PACKETS_MOST;
+use crate::limits::PES_PACKETS_MOST;
 use crate::pes_packets::PlacedPacket;
 use crate::timed_picture::decoding_time;
 use audio_frames::PesStart;
@@ -36,11 +36,11 @@ pub fn audio_starts(
     packets: &[PlacedPacket],
     first: &AxisTime,
 ) -> Result<Vec<PesStart>, AllocError>
-    requires few { length packets.now ≤ PACKETS_MOST }
+    requires few { length packets.now ≤ PES_PACKETS_MOST }
     requires first { IsNear 0 first.now.time }
     requires times { All (λ packet. IfSome (decoding_time packet.header.times) (λ time. time < 2 ^ 33)) packets.now }
     ensures starts { IfOk result (λ starts. AreStartsOf first.now.time packets.now starts.items) }
-    ensures near { IfOk result (λ starts. AreNear PACKETS_MOST starts.items) }
+    ensures near { IfOk result (λ starts. AreNear PES_PACKETS_MOST starts.items) }
 {
     let mut starts = Vec::new(alloc);
     let mut before = *first;

@@ -6,7 +6,7 @@ ghost use Rattle.program_reader.specs.Audio.{IsAudioFault, IsStreamRefused};
 ghost use Rattle.program_reader.specs.Private.AudioStarts.{IsNear, IsStreamRead, AreStreamsRead};
 
 use crate::audio_starts::{AxisTime, audio_starts};
-use crate::limits::PACKETS_MOST;
+use crate::limits::{FILE_BYTES_MOST, PES_PACKETS_MOST};
 use crate::pes_packets::{PlacedPacket, TakenPackets, take_packets};
 use crate::program_fault::{ProgramFault, audio_refused};
 use audio_frames::{Frame, frames};
@@ -30,8 +30,8 @@ pub fn read_stream(
     stream: &AudioStream,
     first: &AxisTime,
 ) -> Result<ReadStream, ProgramFault>
-    requires few { length stream.now.units ≤ PACKETS_MOST }
-    requires size { sum_by (λ packet. length packet.bytes) stream.now.units < 2 ^ 30 }
+    requires few { length stream.now.units ≤ PES_PACKETS_MOST }
+    requires size { sum_by (λ packet. length packet.bytes) stream.now.units ≤ FILE_BYTES_MOST }
     requires first { IsNear 0 first.now.time }
     ensures { MatchResult result (IsStreamRead first.now.time stream.now) (λ fault. (fault ≡ OutOfMemory) ⊎ IsStreamRefused first.now.time stream.now fault) }
 {
@@ -65,8 +65,8 @@ pub fn read_streams(
     streams: &[AudioStream],
     first: &AxisTime,
 ) -> Result<Vec<ReadStream>, ProgramFault>
-    requires few { All (λ stream. length stream.units ≤ PACKETS_MOST) streams.now }
-    requires size { All (λ stream. sum_by (λ packet. length packet.bytes) stream.units < 2 ^ 30) streams.now }
+    requires few { All (λ stream. length stream.units ≤ PES_PACKETS_MOST) streams.now }
+    requires size { All (λ stream. sum_by (λ packet. length packet.bytes) stream.units ≤ FILE_BYTES_MOST) streams.now }
     requires first { IsNear 0 first.now.time }
     ensures { MatchResult result (λ read. AreStreamsRead first.now.time streams.now read.items) (λ fault. (fault ≡ OutOfMemory) ⊎ IsAudioFault first.now.time streams.now fault) }
 {

@@ -31,7 +31,7 @@ impl DueClock {
         requires time { IsTimeFrom self.now.earliest time }
         ensures { IsDue self.now.start self.now.earliest time result }
     {
-        self.start + (time - self.earliest) as u64
+        self.start + time.abs_diff(self.earliest)
     }
 
     /// The program's base: the earliest time less the time at which it is due, modulo the round of the clock.
@@ -56,6 +56,8 @@ fn due_unit(unit: &KeptUnit, clock: &DueClock) -> UnitSource
         end: unit.end,
         times: unit.times,
         due: clock.due(unit.ticks),
+        kind: unit.kind,
+        role: unit.role,
     }
 }
 

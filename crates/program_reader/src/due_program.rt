@@ -11,7 +11,7 @@ ghost use Rattle.program_reader.specs.Private.Sources.{IsVideoRead, with_video};
 use crate::audio_sources::audio_sources;
 use crate::audio_stream::ReadStream;
 use crate::due::due_units;
-use crate::limits::{PACKETS_MOST, UNITS_MOST};
+use crate::limits::{FILE_BYTES_MOST, PES_PACKETS_MOST, UNITS_MOST};
 use crate::program::Program;
 use crate::video_stream::ReadVideo;
 use list_types::{ListOf, OutOfMemory};
@@ -38,8 +38,8 @@ pub fn due_program(
     start: u64,
 ) -> Result<Program, OutOfMemory>
     requires start { start < 2 ^ 50 }
-    requires audios_few { All (λ stream. length stream.units ≤ PACKETS_MOST) beside.audios }
-    requires audios_small { All (λ stream. sum_by (λ packet. length packet.bytes) stream.units < 2 ^ 30) beside.audios }
+    requires audios_few { All (λ stream. length stream.units ≤ PES_PACKETS_MOST) beside.audios }
+    requires audios_small { All (λ stream. sum_by (λ packet. length packet.bytes) stream.units ≤ FILE_BYTES_MOST) beside.audios }
     requires few_audios { length beside.audios ≤ AUDIOS_MOST }
     requires video { (packets : List PesUnit) × IsVideoRead (with_video beside packets) video }
     requires streams { AreStreamsRead video.first.stated beside.audios streams.now }

@@ -46,5 +46,5 @@ fn frames_from<'a>(frames: &'a [Frame], place: u64) -> &'a [Frame]
 fn ends_behind(frame: &Frame, place: u64) -> bool
     ensures { result ≡ nat_lt place (frame.now.at + frame.now.len) }
 {
-    place < frame.at || place - frame.at < u64::from(frame.len)
+    place < frame.at || place - frame.at < frame.len
 }

@@ -1,16 +1,17 @@
 //! The units of a video that are kept, with their times.
-ghost use Rattle.std.specs.Prelude.{◌≡◌, ◌⊎◌, ◌≤◌, ◌<◌, ◌^◌, ◌++◌, ◌∷◌, [], All, length, Some, None, true, map, IfOk, MatchResult, OnOk, unwrap_or};
+ghost use Rattle.std.specs.Prelude.{◌≡◌, ◌⊎◌, ◌+◌, ◌≤◌, ◌<◌, ◌^◌, ◌++◌, ◌∷◌, [], All, length, Some, None, true, map, IfOk, MatchResult, OnOk, unwrap_or};
 ghost use Rattle.program_reader.specs.declared.program_fault.ProgramFault.TheVariants.{OutOfMemory};
 ghost use Rattle.program_reader.specs.Units.{IsUnitsFault};
 ghost use Rattle.program_reader.specs.Private.KeptUnits.{IsVideo, Fits, row_of, AreUnitsKept};
 ghost use Rattle.program_reader.specs.Private.SizedUnits.{kept_at};
 ghost use Rattle.program_reader.specs.Sizes.{AreUnitSizes};
 
+use crate::limits::FILE_BYTES_MOST;
 use crate::pes_packets::TakenPackets;
 use crate::picture_times::stamped_pictures;
 use crate::program_fault::ProgramFault;
 use crate::stamp_walk::unit_times;
-use crate::timed_picture::TimedPicture;
+use crate::timed_picture::{Role, TimedPicture};
 use crate::unit_picture::{TimedUnit, unit_picture};
 use crate::unit_sizes::{SizesWanted, UnitSizes};
 use pes_units::Times;
@@ -18,13 +19,16 @@ use std::alloc::{AllocError, Global};
 use version_maker::Ladder;
 use version_table::limits::VERSIONS_MOST;
 
-/// A unit that is kept: where it stands in the video, the times of its PES header, and its decoding time in ticks.
+/// A unit that is kept: where it stands in the video, the times of its PES header, its decoding time in ticks, its
+/// picture_coding_type and what it is of its coded frame.
 #[derive(Clone, Copy)]
 pub struct KeptUnit {
     pub begin: u64,
     pub end: u64,
     pub times: Times,
     pub ticks: i64,
+    pub kind: u8,
+    pub role: Role,
 }
 
 /// The units that are kept.
@@ -49,7 +53,7 @@ pub fn keep_units(
     sizes: &mut Vec<UnitSizes>,
 ) -> Result<KeptUnits, ProgramFault>
     requires video { IsVideo video.now }
-    requires few { length cuts.now ≤ 2 ^ 30 }
+    requires few { length cuts.now ≤ FILE_BYTES_MOST + 1 }
     requires fits { Fits (length video.now.payload.items) 0 cuts.now }
     requires coarser { length wanted.now.coarser.now < VERSIONS_MOST }
     requires none { sizes.old.items ≡ [] }
@@ -121,6 +125,8 @@ impl KeptUnits {
             end: unit.end,
             times: picture.times,
             ticks: picture.ticks,
+            kind: picture.coding.kind,
+            role: picture.role,
         })?;
         self.first = Some(self.first.unwrap_or(*picture));
         self.last = Some(*picture);

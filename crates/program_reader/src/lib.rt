@@ -1,8 +1,8 @@
 //! A program of a transport stream is read: its video units and audio packets with the times at which a decoder wants them.
 //!
 //! `read_program` answers a program, or the first refusal of its file with its place: one answer alone, by `laws::one_answer`.
-//! `read_sized_program` answers the sizes of all versions of its units too, and reads each unit once for both. The steps stand in a
-//! file each.
+//! `read_sized_program` answers the sizes of all versions of its units too, and reads each unit once for both. `unit_weight` says by
+//! how much a unit's distortions count. The steps stand in a file each.
 //! Stands on `ts_demux`, `pes_units`, `es_units`, `audio_frames`, `picture_reader`, `version_maker`, `job_report` and those below
 //! them.
 #![tactic(auto)]
@@ -10,6 +10,7 @@
 mod audio_sources;
 mod audio_starts;
 mod audio_stream;
+mod carry;
 mod cut_places;
 mod due;
 mod due_program;
@@ -19,7 +20,6 @@ pub mod laws;
 pub mod limits;
 mod packet_bytes;
 mod pes_packets;
-mod picture_places;
 mod picture_times;
 mod pieces;
 mod program;
@@ -28,13 +28,16 @@ mod reading;
 mod stamp_walk;
 mod stream_sizes;
 mod timed_picture;
+mod times_walk;
 mod unit_picture;
 mod unit_sizes;
 mod video_stream;
 
+pub use carry::unit_weight;
 pub use pes_packets::PlacedPacket;
 pub use program::{AudioPiece, AudioSource, Program, UnitSource};
 pub use program_fault::{ProgramFault, SourceKind};
 pub use reading::{SizedProgram, read_program, read_sized_program};
 pub use timed_picture::{Role, TimedPicture};
+pub use times_walk::TimesWalk;
 pub use unit_sizes::UnitSizes;

@@ -1,24 +1,25 @@
 //! What a program's file may be, beside the limits of tables.
 
-use stream_constants::packets::{PACKET_BYTES, PAYLOAD_BYTES};
+use stream_constants::packets::PAYLOAD_BYTES;
 use version_table::limits;
 
-/// Bytes of a file, at most: 512 megabytes.
-pub const FILE_BYTES_MOST: usize = 536_870_912;
-/// Units of all programs of a job, at most: fewer than a table may have, so that their distortions may be any.
-pub const UNITS_MOST: usize = 32_768;
+/// Bytes of a file, at most, and of all files of a job together.
+pub const FILE_BYTES_MOST: usize = 1_099_511_627_776;
 
-const _: () = prove!(UNITS_MOST <= limits::UNITS_OF_ANY_DISTORTION);
+const _: () = prove!(FILE_BYTES_MOST == 1 << 40);
 
-/// Due and gone times of a job are at most this many slots: fewer than those of a table may be.
-pub const TIME_SLOTS_MOST: u64 = 4_194_304;
+const _: () = prove!(FILE_BYTES_MOST as u64 <= audio_frames::PAYLOAD_BYTES_MOST);
 
-const _: () = prove!(TIME_SLOTS_MOST <= limits::TIME_SLOTS_MOST);
+/// PES packets of a carried stream, at most. Each may be half a round of the clock later than the one before, and the times of all
+/// are numbers of 64 bits in ticks.
+pub const PES_PACKETS_MOST: usize = 4_000_000;
+/// Units of all programs of a job, at most: as many as a table may have.
+pub const UNITS_MOST: usize = limits::UNITS_MOST;
+/// Due and gone times of a job are at most this many slots: as those of a table may be.
+pub const TIME_SLOTS_MOST: u64 = limits::TIME_SLOTS_MOST;
 
 /// Bytes of a unit, at most: a megabyte, as many as a unit that has versions may have.
 pub const UNIT_BYTES_MOST: u64 = 1_048_576;
-
-const _: () = prove!(FILE_BYTES_MOST == 512 * 1_024 * 1_024);
 
 const _: () = prove!(UNIT_BYTES_MOST == version_maker::UNIT_BYTES_MOST as u64);
 
@@ -27,5 +28,12 @@ pub const PIECE_BYTES: u64 = 184;
 
 const _: () = prove!(PIECE_BYTES == PAYLOAD_BYTES as u64);
 
-/// Transport packets of a file, at most, and so PES packets of a stream.
-pub const PACKETS_MOST: usize = FILE_BYTES_MOST / PACKET_BYTES;
+/// Coded frames with a P picture that count for the picture that they are predicted from, at most: more than a group of pictures
+/// mostly has.
+pub const FRAMES_CARRIED_MOST: u8 = 12;
+
+/// What the distortions of a unit are multiplied by, at most: the greatest weight, and the carry of a picture that the most coded
+/// frames follow at the greatest drift.
+pub const UNIT_WEIGHT_MOST: u32 = 20_000;
+
+const _: () = prove!(UNIT_WEIGHT_MOST == 100 * (8 + 16 * FRAMES_CARRIED_MOST as u32));

@@ -3,7 +3,7 @@ ghost use Rattle.std.specs.Prelude.{◌≡◌, ◌≤◌, length, All, IfOk};
 ghost use Rattle.program_reader.specs.Private.StampedPictures.{stamps_of};
 
 use crate::pes_packets::PlacedPacket;
-use crate::picture_places::find_picture;
+use es_units::find_picture;
 use pes_units::Times;
 use std::alloc::{AllocError, Global};
 

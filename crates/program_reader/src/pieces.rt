@@ -6,7 +6,7 @@ ghost use Rattle.program_reader.specs.Private.Pieces.{HasTimes, IsSized, Follow,
 
 use crate::due::DueClock;
 use crate::frame_walk::byte_time;
-use crate::limits::{PACKETS_MOST, PIECE_BYTES};
+use crate::limits::{PES_PACKETS_MOST, PIECE_BYTES};
 use crate::pes_packets::PlacedPacket;
 use crate::program::AudioPiece;
 use audio_frames::Frame;
@@ -28,7 +28,7 @@ pub fn audio_pieces(
     frames: &[Frame],
     clock: &DueClock,
 ) -> Result<ListOf<AudioPiece>, OutOfMemory>
-    requires few { length packets.now ≤ PACKETS_MOST }
+    requires few { length packets.now ≤ PES_PACKETS_MOST }
     requires follow { Follow 0 packets.now }
     requires start { clock.now.start < 2 ^ 50 }
     requires earliest { IsTime clock.now.earliest }
@@ -74,7 +74,7 @@ fn add_pieces<'a>(
 fn piece_count(packet: &PlacedPacket) -> u64
     requires sized { IsSized 0 packet.now }
     ensures value { result ≡ (packet_size packet.now + (PIECE_BYTES - 1)) / PIECE_BYTES }
-    ensures small { packet_size packet.now < 2 ^ 33 }
+    ensures small { packet_size packet.now < 2 ^ 42 }
 {
     (packet_size(packet) + (PIECE_BYTES - 1)) / PIECE_BYTES
 }
@@ -121,7 +121,7 @@ fn piece_at<'a>(
 fn packet_size(packet: &PlacedPacket) -> u64
     requires sized { IsSized 0 packet.now }
     ensures value { result ≡ packet_size packet.now }
-    ensures small { result < 2 ^ 33 }
+    ensures small { result < 2 ^ 42 }
 {
     u64::from(packet.header.len) + (packet.end - packet.from)
 }

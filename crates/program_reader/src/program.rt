@@ -1,3 +1,4 @@
+use crate::timed_picture::Role;
 use list_types::ListOf;
 use pes_units::Times;
 use psi_tables::ProgramMap;
@@ -13,6 +14,10 @@ pub struct UnitSource {
     pub times: Times,
     /// When it is decoded, in ticks of 1/27,000,000 s.
     pub due: u64,
+    /// Its picture_coding_type: `I_PICTURE`, `P_PICTURE` or `B_PICTURE`.
+    pub kind: u8,
+    /// What its picture is of its coded frame.
+    pub role: Role,
 }
 
 /// The payload of one transport packet of an audio stream.

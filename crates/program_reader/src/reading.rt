@@ -1,13 +1,13 @@
 //! The program of a file.
-ghost use Rattle.std.specs.Prelude.{◌≡◌, ◌⊎◌, ◌≤◌, ◌<◌, ◌^◌, [], true, length, All, IfOk, MatchResult};
+ghost use Rattle.std.specs.Prelude.{◌≡◌, ◌⊎◌, ◌≤◌, ◌<◌, ◌^◌, ◌↔◌, [], true, IsTrue, length, All, IfOk, MatchResult};
 ghost use Rattle.std.specs.List.{sum_by};
 ghost use Rattle.program_reader.specs.declared.program_fault.ProgramFault.TheVariants.{OutOfMemory};
-ghost use Rattle.program_reader.specs.Programs.{IsProgram, IsDemuxedRefused, IsProgramOfFile, IsProgramRefused};
+ghost use Rattle.program_reader.specs.Programs.{HasFewPackets, IsProgram, IsDemuxedRefused, IsProgramOfFile, IsProgramRefused};
 ghost use Rattle.program_reader.specs.Sizes.{AreProgramSizes};
 
 use crate::audio_stream::read_streams;
 use crate::due_program::{BesideVideo, due_program};
-use crate::limits::{FILE_BYTES_MOST, PACKETS_MOST, UNITS_MOST};
+use crate::limits::{FILE_BYTES_MOST, PES_PACKETS_MOST, UNITS_MOST};
 use crate::program::Program;
 use crate::program_fault::{ProgramFault, SourceKind, demux_refused};
 use crate::stream_sizes::stream_sizes;
@@ -17,7 +17,7 @@ use job_report::limits::START_MOST;
 use list_types::ListOf;
 use std::alloc::Global;
 use stream_constants::limits::AUDIOS_MOST;
-use ts_demux::{Demuxed, demux};
+use ts_demux::{AudioStream, Demuxed, demux};
 use version_table::limits::VERSIONS_MOST;
 
 /// What is said of a limit that is passed.
@@ -112,10 +112,28 @@ fn program_in(
         Ok(demuxed) => demuxed,
         Err(fault) => return Err(demux_refused(fault)),
     };
+    if !has_few_packets(&demuxed) {
+        return Err(PROGRAM_LIMIT);
+    }
     match program_of(alloc, demuxed, start, wanted, sizes) {
         Ok(program) => Ok(program),
         Err(fault) => Err(fault),
     }
+}
+
+/// True where no carried stream has more PES packets than a program may have of one.
+fn has_few_packets(demuxed: &Demuxed) -> bool
+    ensures { IsTrue result ↔ HasFewPackets demuxed.now }
+{
+    demuxed.video.as_slice().len() <= PES_PACKETS_MOST && have_few_each(demuxed.audios.as_slice())
+}
+
+fn have_few_each(streams: &[AudioStream]) -> bool
+    ensures { IsTrue result ↔ All (λ stream. length stream.units ≤ PES_PACKETS_MOST) streams.now }
+{
+    streams
+        .iter()
+        .all(|stream| stream.units.as_slice().len() <= PES_PACKETS_MOST)
 }
 
 /// The program of what is taken out of a file. An error is the first refusal of its video, its audio streams and the number of its
@@ -128,10 +146,10 @@ fn program_of(
     sizes: &mut Vec<UnitSizes>,
 ) -> Result<Program, ProgramFault>
     requires start { start < 2 ^ 50 }
-    requires video_few { length demuxed.video ≤ PACKETS_MOST }
-    requires video_small { sum_by (λ packet. length packet.bytes) demuxed.video < 2 ^ 30 }
-    requires audios_few { All (λ stream. length stream.units ≤ PACKETS_MOST) demuxed.audios }
-    requires audios_small { All (λ stream. sum_by (λ packet. length packet.bytes) stream.units < 2 ^ 30) demuxed.audios }
+    requires video_few { length demuxed.video ≤ PES_PACKETS_MOST }
+    requires video_small { sum_by (λ packet. length packet.bytes) demuxed.video ≤ FILE_BYTES_MOST }
+    requires audios_few { All (λ stream. length stream.units ≤ PES_PACKETS_MOST) demuxed.audios }
+    requires audios_small { All (λ stream. sum_by (λ packet. length packet.bytes) stream.units ≤ FILE_BYTES_MOST) demuxed.audios }
     requires few_audios { length demuxed.audios ≤ AUDIOS_MOST }
     requires coarser { length wanted.now.coarser.now < VERSIONS_MOST }
     requires none { sizes.old.items ≡ [] }

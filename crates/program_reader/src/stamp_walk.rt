@@ -4,8 +4,8 @@ ghost use Rattle.program_reader.specs.declared.pes_packets.PlacedPacket.{PlacedP
 ghost use Rattle.program_reader.specs.PictureTimes.{times_of_unit};
 ghost use Rattle.program_reader.specs.Private.StampedPictures.{times_of_stamp, AreRising, Leaves, TellTimes, IsCounted};
 
-use crate::picture_places::find_picture;
 use crate::picture_times::StampedPicture;
+use es_units::find_picture;
 use pes_units::Times;
 
 /// The times of a unit or picture, and the stamped pictures that are left behind it.
@@ -16,7 +16,7 @@ pub struct FoundTimes<'a> {
 }
 
 /// No times.
-const NO_TIMES: Times = Times {
+pub const NO_TIMES: Times = Times {
     pts: None,
     dts: None,
 };

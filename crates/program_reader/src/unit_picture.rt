@@ -41,7 +41,7 @@ pub fn unit_picture(
     sizes: &mut Vec<UnitSizes>,
     ladder: &mut Ladder,
 ) -> Result<Option<TimedPicture>, ProgramFault>
-    requires size { length es.now < 2 ^ 32 }
+    requires size { length es.now < 2 ^ 41 }
     requires order { unit.now.begin ≤ unit.now.end }
     requires within { unit.now.end ≤ length es.now }
     requires times { IfSome (decoding_time unit.now.times) (λ time. time < 2 ^ 33) }
@@ -83,7 +83,7 @@ fn state_behind(before: Option<&TimedPicture>) -> Option<&SeqState>
 
 /// What a unit that breaks a rule of headers or pictures is: nothing where it is the last one, and else refused.
 fn broken(unit: &TimedUnit, fault: PictureFault) -> Result<Option<TimedPicture>, ProgramFault>
-    requires { unit.now.begin < 2 ^ 32 }
+    requires { unit.now.begin < 2 ^ 41 }
     ensures { result ≡ broken_answer unit.now (refusal_told fault) }
 {
     let (kind, bit) = match fault {

@@ -15,7 +15,7 @@ use crate::audio_starts::AxisTime;
 use crate::cut_places::cut_places;
 use crate::due::EarliestTime;
 use crate::kept_units::{KeptUnit, KeptUnits, keep_units};
-use crate::limits::PACKETS_MOST;
+use crate::limits::{FILE_BYTES_MOST, PES_PACKETS_MOST};
 use crate::pes_packets::{TakenPackets, take_packets};
 use crate::program_fault::{ProgramFault, SourceKind};
 use crate::timed_picture::TimedPicture;
@@ -54,8 +54,8 @@ pub fn read_video(
     wanted: &SizesWanted<'_>,
     sizes: &mut Vec<UnitSizes>,
 ) -> Result<ReadVideo, ProgramFault>
-    requires few { length packets ≤ PACKETS_MOST }
-    requires size { sum_by (λ packet. length packet.bytes) packets < 2 ^ 30 }
+    requires few { length packets ≤ PES_PACKETS_MOST }
+    requires size { sum_by (λ packet. length packet.bytes) packets ≤ FILE_BYTES_MOST }
     requires coarser { length wanted.now.coarser.now < VERSIONS_MOST }
     requires none { sizes.old.items ≡ [] }
     ensures video { (demuxed : Demuxed) → demuxed.video ≡ packets → MatchResult result (IsVideoRead demuxed) (λ fault. (fault ≡ OutOfMemory) ⊎ IsDemuxedRefused demuxed fault) }

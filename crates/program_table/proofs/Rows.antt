@@ -35,6 +35,7 @@ use Rattle.version_table.specs.declared.table.Table.{Table}
 use Rattle.version_table.specs.declared.table.Unit.{Unit as CodedUnit}
 use Rattle.program_reader.specs.declared.program.Program.{Program}
 use Rattle.program_reader.specs.declared.program.UnitSource.{UnitSource}
+use Rattle.program_reader.specs.Carry.{unit_weight}
 use Rattle.version_table.specs.declared.table.Version.{Version}
 use Rattle.pes_units.specs.VideoHeader.{written_pes_header}
 use Rattle.version_maker.specs.declared.version.UnitVersion.{UnitVersion}
@@ -44,7 +45,7 @@ use Rattle.version_source.specs.Sendable.{LeavesState, SpellInOrder, bytes_of_un
 use Rattle.version_source.specs.Versions.{AreAllVersions, ratios_of}
 use Rattle.version_source.specs.Private.OneVersions.{one-state}
 use Rattle.version_source.proofs.StateLemmas.{state-left}
-use Rattle.program_table.specs.Table.{IsRowOf, IsTableOf, program_rows, row_version, unit_rows}
+use Rattle.program_table.specs.Table.{IsRowOf, IsTableOf, program_rows, row_version, unit_row, unit_rows}
 use Rattle.program_table.specs.Private.Rows.{AreProgramRowsSoFar, AreUnitRows, AreUnitRowsSoFar, IsUnitRow, with_header}
 
 -- ---- one unit
@@ -74,12 +75,12 @@ unit-row-of es coarser before weight unit bytes sizes header made same are lengt
 
 -- ---- units
 
-more-units : (es coarser : List ℕ) (weight : ℕ) (units left rest : List UnitSource) (before : Option SeqState) (unit : UnitSource) (after : SeqState) (rows more : List CodedUnit) (row : CodedUnit)
-    → left ≡ unit ∷ rest → more ≡ rows ++ row ∷ [] → AreUnitRowsSoFar es coarser weight units left before rows → IsUnitRow es coarser before weight unit row
-    → LeavesState before (bytes_of_unit es unit) after → AreUnitRowsSoFar es coarser weight units rest (Some after) more
-more-units es coarser weight units left rest before unit after rows more row split pushed far is leaves =
-    let here : AreUnitRowsSoFar es coarser weight units (unit ∷ rest) before rows =
-    subst (λ (those : List UnitSource). AreUnitRowsSoFar es coarser weight units those before rows) split far in
+more-units : (es coarser : List ℕ) (weight drift : ℕ) (units left rest : List UnitSource) (before : Option SeqState) (unit : UnitSource) (after : SeqState) (rows more : List CodedUnit) (row : CodedUnit) (own : ℕ)
+    → left ≡ unit ∷ rest → own ≡ unit_weight weight drift unit rest → more ≡ rows ++ row ∷ [] → AreUnitRowsSoFar es coarser weight drift units left before rows → IsUnitRow es coarser before own unit row
+    → LeavesState before (bytes_of_unit es unit) after → AreUnitRowsSoFar es coarser weight drift units rest (Some after) more
+more-units es coarser weight drift units left rest before unit after rows more row own split weighs pushed far is leaves =
+    let here : AreUnitRowsSoFar es coarser weight drift units (unit ∷ rest) before rows =
+    subst (λ (those : List UnitSource). AreUnitRowsSoFar es coarser weight drift units those before rows) split far in
     let next : SpellInOrder es before (unit ∷ rest) = here.spelled in
     record {
       may_precede = state-left before (bytes_of_unit es unit) after here.may_precede leaves;
@@ -88,31 +89,32 @@ more-units es coarser weight units left rest before unit after rows more row spl
           let (every, those, rows_are) = here.all (is.versions ∷ versions) (after, leaves, is.are_versions, are) in (
             every,
             those,
-            rows_are ∙ ap (λ (r : CodedUnit). rows ++ r ∷ unit_rows weight rest versions) (sym is.row_is) ∙ sym (append_assoc rows (row ∷ []) (unit_rows weight rest versions))
-                ∙ ap (λ (xs : List CodedUnit). xs ++ unit_rows weight rest versions) (sym pushed),
+            rows_are ∙ ap (λ (n : ℕ). rows ++ unit_row n unit is.versions ∷ unit_rows weight drift rest versions) (sym weighs)
+                ∙ ap (λ (r : CodedUnit). rows ++ r ∷ unit_rows weight drift rest versions) (sym is.row_is) ∙ sym (append_assoc rows (row ∷ []) (unit_rows weight drift rest versions))
+                ∙ ap (λ (xs : List CodedUnit). xs ++ unit_rows weight drift rest versions) (sym pushed),
           );
     }
 
 -- one more unit, whose row and state were made behind copies of the state
-pub one-more-unit : (es coarser : List ℕ) (weight : ℕ) (units : List UnitSource) (k : ℕ) (d : UnitSource) (before first second : Option SeqState) (after : SeqState) (rows more : List CodedUnit)
-    (row : CodedUnit) → k < length units → first ≡ before → second ≡ before → more ≡ rows ++ row ∷ [] → AreUnitRowsSoFar es coarser weight units (drop k units) before rows
-    → IsUnitRow es coarser first weight (get_or units k d) row → LeavesState second (bytes_of_unit es (get_or units k d)) after → AreUnitRowsSoFar es coarser weight units (drop (k + 1) units) (Some after) more
-one-more-unit es coarser weight units k d before first second after rows more row within one two pushed far is leaves =
-    more-units es coarser weight units (drop k units) (drop (k + 1) units) before (get_or units k d) after rows more row (drop_more units k d within) pushed far
-    (subst (λ (s : Option SeqState). IsUnitRow es coarser s weight (get_or units k d) row) one is) (subst (λ (s : Option SeqState). LeavesState s (bytes_of_unit es (get_or units k d)) after) two leaves)
+pub one-more-unit : (es coarser : List ℕ) (weight drift : ℕ) (units : List UnitSource) (k : ℕ) (d : UnitSource) (before first second : Option SeqState) (after : SeqState) (rows more : List CodedUnit)
+    (row : CodedUnit) (own : ℕ) → k < length units → own ≡ unit_weight weight drift (get_or units k d) (drop (k + 1) units) → first ≡ before → second ≡ before → more ≡ rows ++ row ∷ [] → AreUnitRowsSoFar es coarser weight drift units (drop k units) before rows
+    → IsUnitRow es coarser first own (get_or units k d) row → LeavesState second (bytes_of_unit es (get_or units k d)) after → AreUnitRowsSoFar es coarser weight drift units (drop (k + 1) units) (Some after) more
+one-more-unit es coarser weight drift units k d before first second after rows more row own within weighs one two pushed far is leaves =
+    more-units es coarser weight drift units (drop k units) (drop (k + 1) units) before (get_or units k d) after rows more row own (drop_more units k d within) weighs pushed far
+    (subst (λ (s : Option SeqState). IsUnitRow es coarser s own (get_or units k d) row) one is) (subst (λ (s : Option SeqState). LeavesState s (bytes_of_unit es (get_or units k d)) after) two leaves)
 
-pub all-units : (es coarser : List ℕ) (weight : ℕ) (units left : List UnitSource) (before : Option SeqState) (rows : List CodedUnit) → left ≡ []
-    → AreUnitRowsSoFar es coarser weight units left before rows → AreUnitRows es coarser None weight units rows
-all-units es coarser weight units left before rows none far =
-    let here : AreUnitRowsSoFar es coarser weight units [] before rows =
-    subst (λ (those : List UnitSource). AreUnitRowsSoFar es coarser weight units those before rows) none far in
+pub all-units : (es coarser : List ℕ) (weight drift : ℕ) (units left : List UnitSource) (before : Option SeqState) (rows : List CodedUnit) → left ≡ []
+    → AreUnitRowsSoFar es coarser weight drift units left before rows → AreUnitRows es coarser None weight drift units rows
+all-units es coarser weight drift units left before rows none far =
+    let here : AreUnitRowsSoFar es coarser weight drift units [] before rows =
+    subst (λ (those : List UnitSource). AreUnitRowsSoFar es coarser weight drift units those before rows) none far in
     let (versions, those, rows_are) = here.all [] tt in
     record { versions = versions; are_versions = those; rows_are = sym (rows_are ∙ append-nil rows) }
 
 -- ---- programs
 
 more-programs : (jobs jobs_left jobs_rest : List ProgramJob) (programs left rest : List Program) (job : ProgramJob) (program : Program) (rows more : List ProgramRow) (row : ProgramRow)
-    → jobs_left ≡ job ∷ jobs_rest → left ≡ program ∷ rest → more ≡ rows ++ row ∷ [] → AreProgramRowsSoFar jobs jobs_left programs left rows → IsRowOf program job.coarser.items job.weight row
+    → jobs_left ≡ job ∷ jobs_rest → left ≡ program ∷ rest → more ≡ rows ++ row ∷ [] → AreProgramRowsSoFar jobs jobs_left programs left rows → IsRowOf program job.coarser.items job.weight job.drift row
     → AreProgramRowsSoFar jobs jobs_rest programs rest more
 more-programs jobs jobs_left jobs_rest programs left rest job program rows more row jobs_split split pushed far is = record {
   all = λ versions are.
@@ -135,7 +137,7 @@ same-item (x ∷ xs) (suc i) d e within = same-item xs i d e (omega (arith, with
 -- one more program, whose ratios and weight were read from the jobs
 pub one-more-program : (jobs slice : List ProgramJob) (programs : List Program) (i : ℕ) (one two : ProgramJob) (ratios : List ℕ) (program : Program) (rows more : List ProgramRow) (row : ProgramRow)
     → i < length jobs → i < length programs → slice ≡ jobs → one ≡ get_or slice i one → two ≡ get_or slice i two → ratios ≡ one.coarser.items → program ≡ get_or programs i program
-    → more ≡ rows ++ row ∷ [] → AreProgramRowsSoFar jobs (drop i jobs) programs (drop i programs) rows → IsRowOf program ratios two.weight row
+    → more ≡ rows ++ row ∷ [] → AreProgramRowsSoFar jobs (drop i jobs) programs (drop i programs) rows → IsRowOf program ratios two.weight two.drift row
     → AreProgramRowsSoFar jobs (drop (i + 1) jobs) programs (drop (i + 1) programs) more
 one-more-program jobs slice programs i one two ratios program rows more row jobs_within within slice_is one_is two_is ratios_are program_is pushed far is =
     let one_at : one ≡ get_or jobs i one = subst (λ (xs : List ProgramJob). one ≡ get_or xs i one) slice_is one_is in
@@ -144,7 +146,7 @@ one-more-program jobs slice programs i one two ratios program rows more row jobs
     more-programs jobs (drop i jobs) (drop (i + 1) jobs) programs (drop i programs) (drop (i + 1) programs) one program rows more row
     (drop_more jobs i one jobs_within ∙ ap (λ (x : ProgramJob). x ∷ drop (i + 1) jobs) (sym one_at))
     (drop_more programs i program within ∙ ap (λ (x : Program). x ∷ drop (i + 1) programs) (sym program_is)) pushed far
-    (subst (λ (r : List ℕ). IsRowOf program r one.weight row) ratios_are (subst (λ (x : ProgramJob). IsRowOf program ratios x.weight row) same is))
+    (subst (λ (r : List ℕ). IsRowOf program r one.weight one.drift row) ratios_are (subst (λ (x : ProgramJob). IsRowOf program ratios x.weight x.drift row) same is))
 
 pub all-programs : (job : Job) (programs left : List Program) (jobs_left : List ProgramJob) (table : Table) → left ≡ [] → jobs_left ≡ []
     → AreProgramRowsSoFar job.programs jobs_left programs left table.programs → table.slot ≡ job.slot → table.nodes ≡ job.nodes → table.evaluations ≡ job.evaluations

@@ -39,23 +39,21 @@ use Rattle.picture_reader.proofs.Parts.{are-dropped}
 use Rattle.picture_grammar.specs.Picture.{MayPrecede}
 use Rattle.syntax_types.specs.declared.picture.SeqState.{SeqState}
 use Rattle.job_report.specs.declared.job.ProgramJob.{ProgramJob}
+use Rattle.job_report.specs.ValidJob.{IsValidProgramJob}
 use Rattle.pes_units.specs.VideoHeader.{written_pes_header}
 use Rattle.program_reader.specs.declared.program.Program.{Program}
 use Rattle.program_reader.specs.declared.program.UnitSource.{UnitSource}
 use Rattle.program_reader.specs.declared.unit_sizes.UnitSizes.{UnitSizes}
 use Rattle.program_reader.specs.Sizes.{AreProgramSizes, AreUnitSizes, stands_at}
-use Rattle.program_reader.specs.Units.{unit_bytes, unit_size}
+use Rattle.program_reader.specs.Carry.{unit_weight}
 use Rattle.job_programs.specs.Sizes.{AreJobSizes}
 use Rattle.version_table.specs.declared.table.ProgramRow.{ProgramRow}
 use Rattle.version_table.specs.declared.table.Unit.{Unit as CodedUnit}
 use Rattle.version_table.specs.declared.table.AudioPacket.{AudioPacket}
-use Rattle.version_table.specs.declared.table.Version.{Version}
 use Rattle.version_maker.specs.declared.limits.TheConstants.{UNIT_BYTES_MOST}
-use Rattle.version_maker.specs.declared.version.UnitVersion.{UnitVersion}
 use Rattle.version_maker.specs.declared.version.VersionSize.{VersionSize}
-use Rattle.version_maker.specs.Versions.{AreSizes, size_of}
+use Rattle.version_maker.specs.Versions.{AreSizes}
 use Rattle.version_source.specs.Sendable.{IsUnitOf, LeavesState, bytes_of_unit}
-use Rattle.version_source.specs.Versions.{AreVideoVersions}
 use Rattle.version_source.proofs.StateLemmas.{state-left}
 use Rattle.program_table.specs.Table.{IsRowOf, audio_row, unit_rows}
 use Rattle.program_table.specs.Private.Rows.{AreBounded, AreUnitRows, CanBeSaid, IsBounded, sized_row, sized_rows, with_header}
@@ -65,14 +63,6 @@ abbrev pub row_with : ℕ → List CodedUnit → List (List AudioPacket) → Pro
 row_with vbv units audios = record { vbv = vbv; units = units; audios = audios }
 
 -- ---- what is told of units by their sizes
-
--- one for each
-pub sizes-many : (es coarser : List ℕ) (before : Option SeqState) (units : List UnitSource) (sizes : List UnitSizes) → AreUnitSizes es coarser before (map stands_at units) sizes
-    → length sizes ≡ length units
-sizes-many es coarser before [] [] are = refl
-sizes-many es coarser before [] (s ∷ ss) are = absurd are
-sizes-many es coarser before (u ∷ us) [] are = absurd are
-sizes-many es coarser before (u ∷ us) (s ∷ ss) are = ap suc (sizes-many es coarser (Some are.0.are.picture.seq) us ss are.1)
 
 -- the state that a unit of told sizes leaves
 leaves-sized : (before : Option SeqState) (unit coarser : List ℕ) (sizes : List VersionSize) → (are : AreSizes before unit coarser sizes) → LeavesState before unit are.are.picture.seq
@@ -110,46 +100,47 @@ all-said es (u ∷ us) each =
 -- ---- rows
 
 -- the rows of units with these sizes are those of their versions
-rows-sized : (es coarser : List ℕ) (before : Option SeqState) (weight : ℕ) (units : List UnitSource) (sizes : List UnitSizes) → AreUnitSizes es coarser before (map stands_at units) sizes
-    → AreUnitRows es coarser before weight units (sized_rows weight units sizes)
-rows-sized es coarser before weight [] [] are = record { versions = []; are_versions = tt; rows_are = refl }
-rows-sized es coarser before weight [] (s ∷ ss) are = absurd are
-rows-sized es coarser before weight (u ∷ us) [] are = absurd are
-rows-sized es coarser before weight (u ∷ us) (s ∷ ss) are =
+rows-sized : (es coarser : List ℕ) (before : Option SeqState) (weight drift : ℕ) (units : List UnitSource) (sizes : List UnitSizes) → AreUnitSizes es coarser before (map stands_at units) sizes
+    → AreUnitRows es coarser before weight drift units (sized_rows weight drift units sizes)
+rows-sized es coarser before weight drift [] [] are = record { versions = []; are_versions = tt; rows_are = refl }
+rows-sized es coarser before weight drift [] (s ∷ ss) are = absurd are
+rows-sized es coarser before weight drift (u ∷ us) [] are = absurd are
+rows-sized es coarser before weight drift (u ∷ us) (s ∷ ss) are =
     let here : AreSizes before (bytes_of_unit es u) coarser s.versions.items = are.0 in
-    let others = rows-sized es coarser (Some here.are.picture.seq) weight us ss are.1 in
-    let items = ap (λ (those : List VersionSize). map (with_header (length (written_pes_header u.times)) weight) those) here.each ∙ rows-of-sizes weight u here.versions in
+    let others = rows-sized es coarser (Some here.are.picture.seq) weight drift us ss are.1 in
+    let items = ap (λ (those : List VersionSize). map (with_header (length (written_pes_header u.times)) (unit_weight weight drift u us)) those) here.each ∙ rows-of-sizes (unit_weight weight drift u us) u here.versions in
     record {
       versions = here.versions ∷ others.versions;
       are_versions = (here.are.picture.seq, leaves-sized before (bytes_of_unit es u) coarser s.versions.items here, here.are, others.are_versions);
       rows_are = ap₂ (λ (row : CodedUnit) (rows : List CodedUnit). row ∷ rows) (ap (unit_with u.due) items) others.rows_are;
     }
 
-pub sized-more : (weight : ℕ) (units : List UnitSource) (sizes : List UnitSizes) (k : ℕ) (d : UnitSource) (own : UnitSizes) (rows more : List CodedUnit) (row : CodedUnit) → k < length units
-    → length sizes ≡ length units → own ≡ get_or sizes k own → row ≡ sized_row weight (get_or units k d) own → more ≡ rows ++ row ∷ []
-    → rows ++ sized_rows weight (drop k units) (drop k sizes) ≡ sized_rows weight units sizes
-    → more ++ sized_rows weight (drop (k + 1) units) (drop (k + 1) sizes) ≡ sized_rows weight units sizes
-sized-more weight units sizes k d own rows more row within many own_is is pushed far =
+pub sized-more : (weight drift : ℕ) (units : List UnitSource) (sizes : List UnitSizes) (k : ℕ) (d : UnitSource) (own : UnitSizes) (rows more : List CodedUnit) (n : ℕ) (row : CodedUnit) → k < length units
+    → length sizes ≡ length units → own ≡ get_or sizes k own → n ≡ unit_weight weight drift (get_or units k d) (drop (k + 1) units) → row ≡ sized_row n (get_or units k d) own → more ≡ rows ++ row ∷ []
+    → rows ++ sized_rows weight drift (drop k units) (drop k sizes) ≡ sized_rows weight drift units sizes
+    → more ++ sized_rows weight drift (drop (k + 1) units) (drop (k + 1) sizes) ≡ sized_rows weight drift units sizes
+sized-more weight drift units sizes k d own rows more n row within many own_is weighs is pushed far =
     let sizes_within : k < length sizes = omega (arith, within, many) in
-    let rest = sized_rows weight (drop (k + 1) units) (drop (k + 1) sizes) in
-    let step : sized_rows weight (drop k units) (drop k sizes) ≡ row ∷ rest =
-    ap₂ (λ (us : List UnitSource) (ss : List UnitSizes). sized_rows weight us ss) (drop_more units k d within) (drop_more sizes k own sizes_within)
-    ∙ ap (λ (o : UnitSizes). sized_row weight (get_or units k d) o ∷ rest) (sym own_is) ∙ ap (λ (r : CodedUnit). r ∷ rest) (sym is) in
+    let rest = sized_rows weight drift (drop (k + 1) units) (drop (k + 1) sizes) in
+    let step : sized_rows weight drift (drop k units) (drop k sizes) ≡ row ∷ rest =
+    ap₂ (λ (us : List UnitSource) (ss : List UnitSizes). sized_rows weight drift us ss) (drop_more units k d within) (drop_more sizes k own sizes_within)
+    ∙ ap (λ (m : ℕ). sized_row m (get_or units k d) (get_or sizes k own) ∷ rest) (sym weighs)
+    ∙ ap (λ (o : UnitSizes). sized_row n (get_or units k d) o ∷ rest) (sym own_is) ∙ ap (λ (r : CodedUnit). r ∷ rest) (sym is) in
     ap (λ (rs : List CodedUnit). rs ++ rest) pushed ∙ append_assoc rows (row ∷ []) rest ∙ ap (λ (rs : List CodedUnit). rows ++ rs) (sym step) ∙ far
 
-pub sized-all : (weight : ℕ) (units : List UnitSource) (sizes : List UnitSizes) (k : ℕ) (rows : List CodedUnit) → drop k units ≡ []
-    → rows ++ sized_rows weight (drop k units) (drop k sizes) ≡ sized_rows weight units sizes → rows ≡ sized_rows weight units sizes
-sized-all weight units sizes k rows none far =
-    sym (ap (λ (us : List UnitSource). rows ++ sized_rows weight us (drop k sizes)) none ∙ append-nil rows) ∙ far
+pub sized-all : (weight drift : ℕ) (units : List UnitSource) (sizes : List UnitSizes) (k : ℕ) (rows : List CodedUnit) → drop k units ≡ []
+    → rows ++ sized_rows weight drift (drop k units) (drop k sizes) ≡ sized_rows weight drift units sizes → rows ≡ sized_rows weight drift units sizes
+sized-all weight drift units sizes k rows none far =
+    sym (ap (λ (us : List UnitSource). rows ++ sized_rows weight drift us (drop k sizes)) none ∙ append-nil rows) ∙ far
 
 -- ---- one program
 
-pub row-sized : (program : Program) (coarser : List ℕ) (weight : ℕ) (units : List UnitSource) (sizes : List UnitSizes) (rows : List CodedUnit) (audios : List (List AudioPacket))
-    → units ≡ program.units → rows ≡ sized_rows weight units sizes → audios ≡ map audio_row program.audios → AreProgramSizes program coarser sizes
-    → IsRowOf program coarser weight (row_with program.vbv rows audios)
-row-sized program coarser weight units sizes rows audios same rows_are audios_are are =
-    let made = rows-sized program.video coarser None weight program.units sizes are in
-    let those : rows ≡ unit_rows weight program.units made.versions = rows_are ∙ ap (λ (us : List UnitSource). sized_rows weight us sizes) same ∙ made.rows_are in
+pub row-sized : (program : Program) (coarser : List ℕ) (weight drift : ℕ) (units : List UnitSource) (sizes : List UnitSizes) (rows : List CodedUnit) (audios : List (List AudioPacket))
+    → units ≡ program.units → rows ≡ sized_rows weight drift units sizes → audios ≡ map audio_row program.audios → AreProgramSizes program coarser sizes
+    → IsRowOf program coarser weight drift (row_with program.vbv rows audios)
+row-sized program coarser weight drift units sizes rows audios same rows_are audios_are are =
+    let made = rows-sized program.video coarser None weight drift program.units sizes are in
+    let those : rows ≡ unit_rows weight drift program.units made.versions = rows_are ∙ ap (λ (us : List UnitSource). sized_rows weight drift us sizes) same ∙ made.rows_are in
     record {
       versions = made.versions;
       are_versions = made.are_versions;
@@ -186,3 +177,8 @@ sizes-here jobs slice programs sizes i job program item own slice_is job_is prog
     subst (λ (ss : List UnitSizes). AreProgramSizes program job.coarser.items ss) (sym item_is ∙ sym own_is)
     (subst (λ (j : ProgramJob). AreProgramSizes program j.coarser.items (get_or sizes i item)) job_at
     (subst (λ (p : Program). AreProgramSizes p (get_or jobs i job).coarser.items (get_or sizes i item)) (sym program_is) here))
+
+-- a program that was read from the jobs of a valid job is valid
+pub job-valid : (jobs slice : List ProgramJob) (i : ℕ) (job : ProgramJob) → slice ≡ jobs → job ≡ get_or slice i job → i < length jobs → All IsValidProgramJob jobs → IsValidProgramJob job
+job-valid jobs slice i job slice_is job_is within all =
+    subst IsValidProgramJob (sym (job_is ∙ ap (λ (js : List ProgramJob). get_or js i job) slice_is)) (all i job within)

@@ -1,9 +1,10 @@
 -- The table of the programs of a job keeps the limits of tables.
-use Rattle.std.proofs.Common.{◌≡◌, ℕ, suc, ◌+◌, ◌*◌, ◌<◌, ◌≤◌, List, [], ◌∷◌, ◌++◌, length, map, sum_by, All, None, ap, subst, sym, ◌∙◌, arith, append_assoc, append-nil}
+use Rattle.std.proofs.Common.{◌≡◌, ℕ, zero, suc, ◌+◌, ◌*◌, ◌<◌, ◌≤◌, ◌⊎◌, List, [], ◌∷◌, ◌++◌, length, map, sum_by, All, None, inl, inr, ap, subst, sym, ◌∙◌, arith, append_assoc, append-nil}
 use Rattle.std.specs.List.{flat_map}
 use Rattle.std.specs.List.Sorted.{IsStrictlyIncreasing}
+use Rattle.std.proofs.lemmas.Bool.{cases_order}
 use Rattle.std.proofs.lemmas.List.{length-append, length-map}
-use Rattle.std.proofs.lemmas.List.Elements.{All-cons, All-head, All-nil, All-tail, All-weaker}
+use Rattle.std.proofs.lemmas.List.Elements.{All-cons, All-head, All-nil, All-tail}
 use Rattle.std.proofs.lemmas.List.Sums.{sum_by-append, sum_by-cons}
 use Rattle.bit_lists.specs.Fields.{AreBytes}
 use Rattle.picture_grammar.specs.Picture.{IsState}
@@ -18,17 +19,17 @@ use Rattle.version_table.specs.declared.table.ProgramRow.{ProgramRow}
 use Rattle.version_table.specs.declared.table.Table.{Table}
 use Rattle.version_table.specs.Table.{IsValidProgram, IsValidTable, IsValidUnit, audio_packets_of, greatest_distortion, units_of}
 use Rattle.version_table.proofs.Greatest.{greatest_together}
-use Rattle.version_table.proofs.ValidUnits.{All-flat_map}
 use Rattle.program_reader.specs.declared.program.Program.{Program}
 use Rattle.program_reader.specs.Programs.{IsProgram, IsProgramOfFile, video_bytes, video_packets}
 use Rattle.program_reader.specs.Units.{AreInOrder}
-use Rattle.program_reader.proofs.SizeLemmas.{IsSmall, audios_small}
+use Rattle.job_programs.specs.Distortions.{IsNear, KeepsDistortions}
+use Rattle.job_programs.specs.Share.{KeepsShare, audio_packets}
 use Rattle.job_programs.specs.Programs.{AreNextPrograms, ArePrograms, IsNextProgram, IsWithinTime, units_of_programs}
 use Rattle.version_maker.specs.declared.version.UnitVersion.{UnitVersion}
 use Rattle.version_source.specs.Versions.{AreAllVersions, AreVideoVersions, ratios_of}
 use Rattle.program_table.specs.Table.{IsRowOf, IsTableOf, audio_row, program_row, program_rows, unit_rows}
-use Rattle.program_table.proofs.AudioLimits.{sources-as-many, streams-few, streams-valid}
-use Rattle.program_table.proofs.UnitLimits.{HavePlaces, Climb, IsShortUnit, climb-rises, dues-climb, dues_of, kept-in-order, pictures-state, row-dues, rows-few, rows-valid, sources-many, units-short}
+use Rattle.program_table.proofs.AudioLimits.{rows-packets, sources-as-many, streams-valid}
+use Rattle.program_table.proofs.UnitLimits.{AreAllNear, HavePlaces, Climb, IsShortUnit, all-near, told-near, told-together, climb-rises, dues-climb, dues_of, kept-in-order, pictures-state, row-dues, rows-few, rows-valid, sources-many, units-short}
 
 -- ---- one program
 
@@ -36,15 +37,51 @@ use Rattle.program_table.proofs.UnitLimits.{HavePlaces, Climb, IsShortUnit, clim
 abbrev audio_packets_in : ProgramRow → List AudioPacket
 audio_packets_in row = flat_map (λ packets. packets) row.audios
 
--- a row keeps the limits, and hasn't too many audio packets
+-- a row keeps the limits, and takes no more than one of eight may: audio packets, and distortions
 record IsFine (slot : ℕ) (row : ProgramRow) : Type 0 where
   pub valid : IsValidProgram slot row
-  pub few : length (audio_packets_in row) ≤ 69600000
+  pub few : length (audio_packets_in row) ≤ 536870911
+  pub together : sum_by greatest_distortion row.units < 1152921504606846976
 
-program-fine : HavePlaces → (slot start number weight : ℕ) (content drop coarser : List ℕ) (program : Program) (versions : List (List UnitVersion)) → weight ≤ 100 → length coarser ≤ 7
+program-short : (start number : ℕ) (content drop : List ℕ) (program : Program) → IsProgramOfFile content number drop start program → All IsShortUnit program.units
+program-short start number content drop program holds =
+    let read : IsProgram start holds.demuxed program = holds.program_is in
+    let es = video_bytes holds.demuxed in
+    let packets = video_packets holds.demuxed in
+    let pictures = read.has_pictures in
+    units-short start read.earliest es packets [] read.kept read.pictures program.units read.units_are
+    (kept-in-order es packets pictures.units.cuts read.kept read.pictures pictures.at_end pictures.kept_are)
+
+-- the greatest distortions of a program's units together are below its limit
+together-of : (slot weight : ℕ) (coarser : List ℕ) (program : Program) (versions : List (List UnitVersion)) (drift : ℕ) → KeepsDistortions weight drift coarser program
+    → All (IsValidUnit slot) (unit_rows weight drift program.units versions) → AreVideoVersions program.video coarser None program.units versions
+    → sum_by greatest_distortion (unit_rows weight drift program.units versions) < 1152921504606846976
+together-of slot weight coarser program versions drift keeps valid is = by-drift drift keeps valid
+  where
+    told : (drift : ℕ) → IsNear weight drift coarser program → sum_by greatest_distortion (unit_rows weight drift program.units versions) < 1152921504606846976
+    told drift near =
+        subst (λ (n : ℕ). n < 1152921504606846976) (sym (told-together weight drift program.video coarser None program.units versions near.sizes is near.are_sizes)) near.together
+
+    few : (drift : ℕ) → All (IsValidUnit slot) (unit_rows weight drift program.units versions) → length program.units ≤ 4096
+        → sum_by greatest_distortion (unit_rows weight drift program.units versions) < 1152921504606846976
+    few drift valid less = omega (arith, greatest_together slot (unit_rows weight drift program.units versions) valid, rows-few weight drift program.units versions, less)
+
+    by-count : KeepsDistortions weight zero coarser program → All (IsValidUnit slot) (unit_rows weight zero program.units versions)
+        → (4096 ≡ length program.units) ⊎ ((4096 < length program.units) ⊎ (length program.units < 4096))
+        → sum_by greatest_distortion (unit_rows weight zero program.units versions) < 1152921504606846976
+    by-count keeps valid (inl same) = few zero valid (omega (arith, same))
+    by-count keeps valid (inr (inl many)) = told zero (keeps (inr many))
+    by-count keeps valid (inr (inr less)) = few zero valid (omega (arith, less))
+
+    by-drift : (drift : ℕ) → KeepsDistortions weight drift coarser program → All (IsValidUnit slot) (unit_rows weight drift program.units versions)
+        → sum_by greatest_distortion (unit_rows weight drift program.units versions) < 1152921504606846976
+    by-drift (suc less) keeps valid = told (suc less) (keeps (inl (omega arith)))
+    by-drift zero keeps valid = by-count keeps valid (cases_order 4096 (length program.units))
+
+program-fine : HavePlaces → (slot start number weight drift : ℕ) (content drop coarser : List ℕ) (program : Program) (versions : List (List UnitVersion)) → length coarser ≤ 7
     → IsProgramOfFile content number drop start program → IsWithinTime slot program → AreBytes program.video → AreVideoVersions program.video coarser None program.units versions
-    → IsFine slot (program_row weight program versions)
-program-fine places slot start number weight content drop coarser program versions light few_ratios holds within are is =
+    → KeepsShare weight drift coarser program → AreAllNear weight drift program.units versions → IsFine slot (program_row weight drift program versions)
+program-fine places slot start number weight drift content drop coarser program versions few_ratios holds within are is room near =
     let demuxed = holds.demuxed in
     let read : IsProgram start demuxed program = holds.program_is in
     let es = video_bytes demuxed in
@@ -59,52 +96,61 @@ program-fine places slot start number weight content drop coarser program versio
     let climb : Climb 0 (dues_of program.units) =
     dues-climb start read.earliest es packets [] 0 read.kept read.pictures program.units (λ ticks due later is. omega arith) read.units_are in_order in
     let rises : IsStrictlyIncreasing (dues_of program.units) = climb-rises 0 (dues_of program.units) climb in
-    let short : All IsShortUnit program.units = units-short start read.earliest es packets [] read.kept read.pictures program.units read.units_are in_order in
+    let short : All IsShortUnit program.units = program-short start number content drop program holds in
     let as_many : length program.audios ≡ length demuxed.audios = sources-as-many start read.earliest demuxed.audios read.frames program.audios read.audios_are in
     let streams : length demuxed.map.streams.items ≡ suc (length holds.demuxed_is.audios) = ap (λ (xs : List Stream). length xs) holds.demuxed_is.streams in
     let carried : length demuxed.audios ≡ length holds.demuxed_is.audios =
     ap (λ (xs : List AudioStream). length xs) holds.demuxed_is.audio_packets ∙ length-map holds.demuxed_is.audios (pes_packets_on content) in
     let few : length demuxed.map.streams.items ≤ 1 + 8 = holds.demuxed_is.few in
     let audios : length (map audio_row program.audios) ≡ length program.audios = length-map program.audios audio_row in
-    let small : All (λ (stream : AudioStream). IsSmall stream.units) demuxed.audios =
-    subst (λ (xs : List AudioStream). All (λ (stream : AudioStream). IsSmall stream.units) xs) (sym holds.demuxed_is.audio_packets) (audios_small content holds.demuxed_is.audios holds.within) in
-    let count : length (flat_map (λ packets. packets) (map audio_row program.audios)) ≤ 8700000 * length program.audios =
-    streams-few start read.earliest read.first.stated demuxed.audios read.frames program.audios read.have_frames read.audios_are small in
+    let count : length (flat_map (λ packets. packets) (map audio_row program.audios)) ≡ audio_packets program.audios = rows-packets program.audios in
     let eight : length program.audios ≤ 8 = omega (arith, as_many, streams, carried, few) in
+    let units : All (IsValidUnit slot) (unit_rows weight drift program.units versions) =
+    rows-valid places slot weight drift program.video coarser None program.units versions few_ratios are tt short within.units is near in
     record {
       valid = record {
         some_vbv = omega (arith, vbv, least);
         vbv = omega (arith, vbv, most);
-        units = rows-valid places slot weight program.video coarser None program.units versions light few_ratios are tt short within.units is;
-        dues = subst IsStrictlyIncreasing (sym (row-dues weight program.video coarser None program.units versions is)) rises;
+        units = units;
+        dues = subst IsStrictlyIncreasing (sym (row-dues weight drift program.video coarser None program.units versions is)) rises;
         few_audios = omega (arith, audios, eight);
         audios = streams-valid slot start read.earliest read.first.stated demuxed.audios read.frames program.audios read.have_frames read.audios_are within.audio_gones;
       };
-      few = omega (arith, count, eight);
+      few = omega (arith, count, room.packets);
+      together = together-of slot weight coarser program versions drift room.distortions units is;
     }
 
 -- a row has a place in a table: it keeps the limits, and its units and audio packets aren't too many
 pub row-valid : HavePlaces → (slot start number weight : ℕ) (content drop coarser : List ℕ) (program : Program) (row : ProgramRow) → weight ≤ 100 → length coarser ≤ 7
-    → IsProgramOfFile content number drop start program → IsWithinTime slot program → AreBytes program.video → IsRowOf program coarser weight row
-    → IsValidProgram slot row × (length row.units ≤ 32768) × (length (flat_map (λ packets. packets) row.audios) < 4294967296)
+    → IsProgramOfFile content number drop start program → IsWithinTime slot program → KeepsShare weight 0 coarser program → AreBytes program.video → IsRowOf program coarser weight 0 row
+    → IsValidProgram slot row × (length row.units ≤ 4194304) × (length (flat_map (λ packets. packets) row.audios) < 4294967296)
     × (sum_by greatest_distortion row.units < 9223372036854775808)
-row-valid places slot start number weight content drop coarser program row light few_ratios holds within are is =
+row-valid places slot start number weight content drop coarser program row light few_ratios holds within room are is =
     let fine : IsFine slot row =
-    subst (IsFine slot) (sym is.row_is) (program-fine places slot start number weight content drop coarser program is.versions light few_ratios holds within are is.are_versions) in
-    let rows : length row.units ≡ length (unit_rows weight program.units is.versions) = ap (λ (r : ProgramRow). length r.units) is.row_is in
+    subst (IsFine slot) (sym is.row_is) (program-fine places slot start number weight 0 content drop coarser program is.versions few_ratios holds within are is.are_versions room
+    (all-near places weight program.video coarser None program.units is.versions light are tt (program-short start number content drop program holds) is.are_versions)) in
+    let rows : length row.units ≡ length (unit_rows weight 0 program.units is.versions) = ap (λ (r : ProgramRow). length r.units) is.row_is in
     let read : IsProgram start holds.demuxed program = holds.program_is in
     let count : length program.units ≡ length read.kept = sources-many start read.earliest read.kept read.pictures program.units read.units_are in
-    let most : length read.kept ≤ 32768 = read.few in
-    let few : length row.units ≤ 32768 = omega (arith, rows, rows-few weight program.units is.versions, count, most) in
-    (fine.valid, few, omega (arith, fine.few), omega (arith, greatest_together slot row.units fine.valid.units, few))
+    let most : length read.kept ≤ 4194304 = read.few in
+    let few : length row.units ≤ 4194304 = omega (arith, rows, rows-few weight 0 program.units is.versions, count, most) in
+    (fine.valid, few, omega (arith, fine.few), omega (arith, fine.together))
 
 -- ---- all programs
 
 one-fine : HavePlaces → (slot start : ℕ) (contents : List (List ℕ)) (before : List Program) (job : ProgramJob) (content : List ℕ) (program : Program) (versions : List (List UnitVersion))
     → IsValidProgramJob job → IsNextProgram slot start contents before job content program → AreBytes program.video
-    → AreVideoVersions program.video job.coarser.items None program.units versions → IsFine slot (program_row job.weight program versions)
+    → AreVideoVersions program.video job.coarser.items None program.units versions → IsFine slot (program_row job.weight job.drift program versions)
 one-fine places slot start contents before job content program versions valid next are is =
-    program-fine places slot start job.program job.weight content job.drop.items job.coarser.items program versions valid.weight valid.few_coarser next.holds next.within are is
+    program-fine places slot start job.program job.weight job.drift content job.drop.items job.coarser.items program versions valid.few_coarser next.holds next.within are is next.share
+    (by-drift job.drift next.share.distortions)
+  where
+    by-drift : (drift : ℕ) → KeepsDistortions job.weight drift job.coarser.items program → AreAllNear job.weight drift program.units versions
+    by-drift zero keeps =
+        all-near places job.weight program.video job.coarser.items None program.units versions valid.weight are tt (program-short start job.program content job.drop.items program next.holds) is
+    by-drift (suc less) keeps =
+        let near = keeps (inl (omega arith)) in
+        told-near job.weight (suc less) program.video job.coarser.items None program.units versions near.sizes is near.are_sizes near.near
 
 programs-fine : HavePlaces → (slot start : ℕ) (contents further : List (List ℕ)) (before programs : List Program) (jobs : List ProgramJob) (versions : List (List (List UnitVersion)))
     → All IsValidProgramJob jobs → AreNextPrograms slot start contents before jobs further programs → All (λ program. AreBytes program.video) programs
@@ -118,7 +164,7 @@ programs-fine places slot start contents (c ∷ cs) before [] [] versions valid 
 programs-fine places slot start contents (c ∷ cs) before (p ∷ ps) [] versions valid next are is = absurd is
 programs-fine places slot start contents (c ∷ cs) before (p ∷ ps) (j ∷ js) [] valid next are is = absurd is
 programs-fine places slot start contents (content ∷ further) before (program ∷ programs) (job ∷ jobs) (own ∷ more) valid next are is =
-    All-cons (IsFine slot) (program_row job.weight program own) (program_rows jobs programs more)
+    All-cons (IsFine slot) (program_row job.weight job.drift program own) (program_rows jobs programs more)
     (one-fine places slot start contents before job content program own (All-head IsValidProgramJob job jobs valid) next.0
     (All-head (λ (p : Program). AreBytes p.video) program programs are) is.0)
     (programs-fine places slot start (contents ++ content ∷ []) further (before ++ program ∷ []) programs jobs more (All-tail IsValidProgramJob job jobs valid) next.1
@@ -127,16 +173,28 @@ programs-fine places slot start contents (content ∷ further) before (program �
 all-valid : (slot : ℕ) (rows : List ProgramRow) → All (IsFine slot) rows → All (IsValidProgram slot) rows
 all-valid slot rows fine = λ k d within. (fine k d within).valid
 
-packets-few : (slot : ℕ) (rows : List ProgramRow) → All (IsFine slot) rows → length (flat_map audio_packets_in rows) ≤ 69600000 * length rows
+packets-few : (slot : ℕ) (rows : List ProgramRow) → All (IsFine slot) rows → length (flat_map audio_packets_in rows) ≤ 536870911 * length rows
 packets-few slot [] fine = omega arith
 packets-few slot (r ∷ rs) fine =
     let here : IsFine slot r = All-head (IsFine slot) r rs fine in
-    let rest : length (flat_map audio_packets_in rs) ≤ 69600000 * length rs = packets-few slot rs (All-tail (IsFine slot) r rs fine) in
+    let rest : length (flat_map audio_packets_in rs) ≤ 536870911 * length rs = packets-few slot rs (All-tail (IsFine slot) r rs fine) in
     let both : length (audio_packets_in r ++ flat_map audio_packets_in rs) ≡ length (audio_packets_in r) + length (flat_map audio_packets_in rs) =
     length-append (audio_packets_in r) (flat_map audio_packets_in rs) in
     sum (length (audio_packets_in r)) (length (flat_map audio_packets_in rs)) (length (audio_packets_in r ++ flat_map audio_packets_in rs)) (length rs) here.few rest both
   where
-    sum : (own rest both count : ℕ) → own ≤ 69600000 → rest ≤ 69600000 * count → both ≡ own + rest → both ≤ 69600000 * suc count
+    sum : (own rest both count : ℕ) → own ≤ 536870911 → rest ≤ 536870911 * count → both ≡ own + rest → both ≤ 536870911 * suc count
+    sum own rest both count few more is = omega (arith, few, more, is)
+
+together-few : (slot : ℕ) (rows : List ProgramRow) → All (IsFine slot) rows → sum_by greatest_distortion (flat_map (λ row. row.units) rows) ≤ 1152921504606846975 * length rows
+together-few slot [] fine = omega arith
+together-few slot (r ∷ rs) fine =
+    let here : IsFine slot r = All-head (IsFine slot) r rs fine in
+    let rest : sum_by greatest_distortion (flat_map (λ (row : ProgramRow). row.units) rs) ≤ 1152921504606846975 * length rs = together-few slot rs (All-tail (IsFine slot) r rs fine) in
+    sum (sum_by greatest_distortion r.units) (sum_by greatest_distortion (flat_map (λ (row : ProgramRow). row.units) rs))
+    (sum_by greatest_distortion (r.units ++ flat_map (λ (row : ProgramRow). row.units) rs)) (length rs) here.together rest
+    (sum_by-append greatest_distortion r.units (flat_map (λ (row : ProgramRow). row.units) rs))
+  where
+    sum : (own rest both count : ℕ) → own < 1152921504606846976 → rest ≤ 1152921504606846975 * count → both ≡ own + rest → both ≤ 1152921504606846975 * suc count
     sum own rest both count few more is = omega (arith, few, more, is)
 
 rows-fewer : (jobs : List ProgramJob) (programs : List Program) (versions : List (List (List UnitVersion))) → length (program_rows jobs programs versions) ≤ length jobs
@@ -158,19 +216,19 @@ units-fewer (j ∷ js) [] versions = omega arith
 units-fewer (j ∷ js) (p ∷ ps) [] = omega arith
 units-fewer (j ∷ js) (p ∷ ps) (v ∷ vs) =
     let rest : length (flat_map (λ (row : ProgramRow). row.units) (program_rows js ps vs)) ≤ units_of_programs ps = units-fewer js ps vs in
-    let here : length (unit_rows j.weight p.units v) ≤ length p.units = rows-few j.weight p.units v in
+    let here : length (unit_rows j.weight j.drift p.units v) ≤ length p.units = rows-few j.weight j.drift p.units v in
     omega (
       arith,
       here,
       rest,
-      length-append (unit_rows j.weight p.units v) (flat_map (λ (row : ProgramRow). row.units) (program_rows js ps vs)),
+      length-append (unit_rows j.weight j.drift p.units v) (flat_map (λ (row : ProgramRow). row.units) (program_rows js ps vs)),
       sum_by-cons (λ (program : Program). length program.units) p ps,
     )
 
 -- units of some programs behind others are as many as the limit allows
-units-within : (slot start : ℕ) (contents further : List (List ℕ)) (before programs : List Program) (jobs : List ProgramJob) → units_of_programs before ≤ 32768
-    → AreNextPrograms slot start contents before jobs further programs → units_of_programs (before ++ programs) ≤ 32768
-units-within slot start contents [] before [] [] few next = subst (λ (ps : List Program). units_of_programs ps ≤ 32768) (sym (append-nil before)) few
+units-within : (slot start : ℕ) (contents further : List (List ℕ)) (before programs : List Program) (jobs : List ProgramJob) → units_of_programs before ≤ 4194304
+    → AreNextPrograms slot start contents before jobs further programs → units_of_programs (before ++ programs) ≤ 4194304
+units-within slot start contents [] before [] [] few next = subst (λ (ps : List Program). units_of_programs ps ≤ 4194304) (sym (append-nil before)) few
 units-within slot start contents [] before [] (j ∷ js) few next = absurd next
 units-within slot start contents [] before (p ∷ ps) [] few next = absurd next
 units-within slot start contents [] before (p ∷ ps) (j ∷ js) few next = absurd next
@@ -178,11 +236,11 @@ units-within slot start contents (c ∷ cs) before [] [] few next = absurd next
 units-within slot start contents (c ∷ cs) before [] (j ∷ js) few next = absurd next
 units-within slot start contents (c ∷ cs) before (p ∷ ps) [] few next = absurd next
 units-within slot start contents (content ∷ further) before (program ∷ programs) (job ∷ jobs) few next =
-    let room : units_of_programs before + length program.units ≤ 32768 = next.0.few_units in
+    let room : units_of_programs before + length program.units ≤ 4194304 = next.0.few_units in
     let both : units_of_programs (before ++ program ∷ []) ≡ units_of_programs before + units_of_programs (program ∷ []) =
     sum_by-append (λ (p : Program). length p.units) before (program ∷ []) in
     let one : units_of_programs (program ∷ []) ≡ length program.units = sum_by-cons (λ (p : Program). length p.units) program [] ∙ add-none (length program.units) in
-    subst (λ (ps : List Program). units_of_programs ps ≤ 32768) (append_assoc before (program ∷ []) programs)
+    subst (λ (ps : List Program). units_of_programs ps ≤ 4194304) (append_assoc before (program ∷ []) programs)
     (units-within slot start (contents ++ content ∷ []) further (before ++ program ∷ []) programs jobs (omega (arith, room, both, one)) next.1)
   where
     add-none : (n : ℕ) → n + 0 ≡ n
@@ -202,15 +260,13 @@ table-valid places job contents programs table valid next are is =
     let units : length (units_of table) ≡ length (flat_map (λ (row : ProgramRow). row.units) rows) =
     ap (λ (rs : List ProgramRow). length (flat_map (λ (row : ProgramRow). row.units) rs)) is.rows in
     let some : length (flat_map (λ (row : ProgramRow). row.units) rows) ≤ units_of_programs programs = units-fewer job.programs programs is.versions in
-    let most : units_of_programs programs ≤ 32768 = units-within job.slot job.start [] contents [] programs job.programs (omega arith) next in
-    let packets : length (audio_packets_of table) ≤ 69600000 * length table.programs = packets-few table.slot table.programs fine_table in
+    let most : units_of_programs programs ≤ 4194304 = units-within job.slot job.start [] contents [] programs job.programs (omega arith) next in
+    let packets : length (audio_packets_of table) ≤ 536870911 * length table.programs = packets-few table.slot table.programs fine_table in
     let slot : table.slot ≡ job.slot = is.slot in
     let nodes : table.nodes ≡ job.nodes = is.nodes in
     let evaluations : table.evaluations ≡ job.evaluations = is.evaluations in
     let eight : length job.programs ≤ 8 = valid.few_programs in
-    let all_units : All (IsValidUnit table.slot) (units_of table) =
-    All-flat_map (IsValidUnit table.slot) (λ program. program.units) table.programs
-    (All-weaker (IsValidProgram table.slot) (λ program. All (IsValidUnit table.slot) program.units) (λ program h. h.units) table.programs (all-valid table.slot table.programs fine_table)) in
+    let together : sum_by greatest_distortion (units_of table) ≤ 1152921504606846975 * length table.programs = together-few table.slot table.programs fine_table in
     record {
       slot_least = omega (arith, slot, valid.slot_least);
       slot_most = omega (arith, slot, valid.slot_most);
@@ -220,6 +276,6 @@ table-valid places job contents programs table valid next are is =
       few_programs = omega (arith, count, fewer, eight);
       programs = all-valid table.slot table.programs fine_table;
       units = omega (arith, units, some, most);
-      distortions = omega (arith, greatest_together table.slot (units_of table) all_units, units, some, most);
+      distortions = omega (arith, together, count, fewer, eight);
       audio_packets = omega (arith, packets, count, fewer, eight);
     }

@@ -10,9 +10,10 @@ ghost use Rattle.version_table.specs.declared.table.ProgramRow.{ProgramRow};
 ghost use Rattle.version_table.specs.declared.table.Table.{Table};
 ghost use Rattle.version_table.specs.Table.{IsValidProgram, IsValidTable, greatest_distortion};
 ghost use Rattle.job_programs.specs.Programs.{ArePrograms, IsWithinTime};
+ghost use Rattle.job_programs.specs.Share.{KeepsShare};
 ghost use Rattle.program_table.specs.Table.{IsRowOf, IsTableOf};
 
-use job_report::limits::{COARSER_MOST, WEIGHT_MOST};
+use job_report::limits::{COARSER_MOST, DRIFT_DEFAULT, WEIGHT_MOST};
 use program_reader::limits::UNITS_MOST;
 use version_laws::laws::versions_have_places;
 use version_source::laws::one_list_of_versions;
@@ -33,10 +34,12 @@ pub fn table_is_valid()
     versions_have_places();
 }
 
-/// Where a file holds a program whose times lie within a slot length's limit, its row has a place in a table of such slots.
+/// Where a file holds a program whose times lie within a slot length's limit, and that takes no more of a table than its share, its row
+/// without drift has a place in a table of such slots.
 pub fn row_is_valid()
     ensures { (slot start number weight : ℕ) (content drop coarser : List ℕ) (program : Program) (row : ProgramRow) → weight ≤ WEIGHT_MOST → length coarser ≤ COARSER_MOST
-        → IsProgramOfFile content number drop start program → IsWithinTime slot program → AreBytes program.video → IsRowOf program coarser weight row
+        → IsProgramOfFile content number drop start program → IsWithinTime slot program → KeepsShare weight DRIFT_DEFAULT coarser program
+        → AreBytes program.video → IsRowOf program coarser weight DRIFT_DEFAULT row
         → IsValidProgram slot row × (length row.units ≤ UNITS_MOST) × (length (flat_map (λ packets. packets) row.audios) < AUDIO_PACKETS_LIMIT)
         × (sum_by greatest_distortion row.units < DISTORTIONS_LIMIT) }
 {

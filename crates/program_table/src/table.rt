@@ -28,7 +28,8 @@ pub fn table_of(
     let mut rows = ListOf::new(alloc);
     for i in 0..programs.len() {
         let own = sizes[i].as_slice();
-        let row = row_of_sized_program(alloc, &programs[i], own, jobs[i].weight)?;
+        let wanted = &jobs[i];
+        let row = row_of_sized_program(alloc, &programs[i], own, wanted.weight, wanted.drift)?;
         rows.push(row)?;
     }
     Ok(Table {

@@ -11,6 +11,7 @@ use arrayvec::ArrayVec;
 use list_types::OutOfMemory;
 use pes_units::{MOST_HEADER_BYTES, Times, write_video_header};
 use program_reader::UnitSource;
+use program_reader::limits::UNIT_WEIGHT_MOST;
 use std::alloc::Global;
 use syntax_types::SeqState;
 use version_laws::laws::sizes_are_bounded;
@@ -19,19 +20,20 @@ use version_source::unit_bytes;
 use version_table::limits::VERSIONS_MOST;
 use version_table::{Unit, Version};
 
-/// A unit of a video with all its versions, behind the state before it. The error is want of memory.
+/// A unit of a video of this weight with all its versions, behind the state before it. The error is want of memory.
 pub fn row_of_unit(
     alloc: Global,
     es: &[u8],
     unit: &UnitSource,
     before: Option<&SeqState>,
     coarser: &[u16],
-    weight: u8,
+    weight: u32,
 ) -> Result<Unit, OutOfMemory>
     requires unit { IsUnitOf es.now unit.now }
     requires before { MayPrecede (option_copied before) }
     requires picture { (after : SeqState) × LeavesState (option_copied before) (bytes_of_unit es.now unit.now) after }
     requires coarser { length coarser.now < VERSIONS_MOST }
+    requires weight { weight ≤ UNIT_WEIGHT_MOST }
     ensures { IfOk result (IsUnitRow es.now coarser.now (option_copied before.entry) weight unit.now) }
 {
     let bytes = unit_bytes(es, unit);
@@ -59,14 +61,15 @@ pub fn header_bytes(times: &Times) -> u8
     write_video_header(times, &mut header)
 }
 
-/// Versions of these sizes with a header before each, whose distortions count as much as the program weighs.
+/// Versions of these sizes with a header before each, whose distortions count as much as their unit weighs.
 pub fn with_headers(
     header: u8,
-    weight: u8,
+    weight: u32,
     sizes: &[VersionSize],
 ) -> ArrayVec<Version, VERSIONS_MOST>
     requires few { length sizes.now ≤ VERSIONS_MOST }
     requires bounded { All IsBounded sizes.now }
+    requires weight { weight ≤ UNIT_WEIGHT_MOST }
     ensures { result.items ≡ map (with_header header weight) sizes.now }
 {
     let mut versions = ArrayVec::new();
@@ -77,8 +80,9 @@ pub fn with_headers(
 }
 
 /// A version of this size with a header before it.
-fn weighted(header: u8, weight: u8, size: VersionSize) -> Version
-    requires { IsBounded size }
+fn weighted(header: u8, weight: u32, size: VersionSize) -> Version
+    requires bounded { IsBounded size }
+    requires weight { weight ≤ UNIT_WEIGHT_MOST }
     ensures { result ≡ with_header header weight size }
 {
     Version {

@@ -32,9 +32,13 @@ fn begins_with_sources(row: &ProgramRow, program: &Program) -> bool {
     true
 }
 
-/// Units are due as those of another row, and their versions are as long and so many times as far from their sources.
-fn counts(row: &ProgramRow, other: &ProgramRow, times: u64) -> bool {
+/// Units are due as those of another row, and their versions are as long and so many times as far from their sources: the last unit
+/// `times`, and each one before it `more` times farther than the one behind it.
+fn counts(row: &ProgramRow, other: &ProgramRow, times: u64, more: u64) -> bool {
+    let mut behind = row.units.len() as u64;
     for (unit, single) in row.units.as_slice().iter().zip(other.units.as_slice()) {
+        behind = behind.wrapping_sub(1);
+        let times = times.wrapping_add(more.wrapping_mul(behind));
         for (version, once) in unit
             .versions
             .as_slice()
@@ -59,14 +63,17 @@ fn a_generated_program(rt: HostRuntime) -> Result<(), Fail> {
     let file = make_program(rt.alloc(), 1, 12)?;
     let program = read_program(rt.alloc(), file.as_slice(), 1, &[], START)?;
     programs_can_be_sent();
-    let row = row_of_program(rt.alloc(), &program, &RATIOS, 3)?;
+    let row = row_of_program(rt.alloc(), &program, &RATIOS, 3, 0)?;
     assert_eq!(rt; (row.units.len(), row.audios.len()), (12, 1));
     if let [audio] = row.audios.as_slice() {
         assert_eq!(rt; audio.len(), 80);
     }
     assert!(rt; begins_with_sources(&row, &program));
-    let once = row_of_program(rt.alloc(), &program, &RATIOS, 1)?;
-    assert!(rt; counts(&row, &once, 3));
+    let once = row_of_program(rt.alloc(), &program, &RATIOS, 1, 0)?;
+    assert!(rt; counts(&row, &once, 3, 0));
+    // An I picture and eleven P pictures: each counts 3 times 8, and 3 times 6 more for each one behind it.
+    let carried = row_of_program(rt.alloc(), &program, &RATIOS, 3, 6)?;
+    assert!(rt; counts(&carried, &once, 24, 18));
     Ok(())
 }
 
@@ -82,10 +89,13 @@ fn a_program_that_was_sized_as_it_was_read(rt: HostRuntime) -> Result<(), Fail> 
         &RATIOS,
     )?;
     programs_can_be_sent();
-    let row = row_of_sized_program(rt.alloc(), &program, sizes.as_slice(), 3)?;
+    let row = row_of_sized_program(rt.alloc(), &program, sizes.as_slice(), 3, 0)?;
     assert_eq!(rt; (row.units.len(), row.audios.len()), (12, 1));
     assert!(rt; begins_with_sources(&row, &program));
-    let other = row_of_program(rt.alloc(), &program, &RATIOS, 3)?;
-    assert!(rt; counts(&row, &other, 1));
+    let other = row_of_program(rt.alloc(), &program, &RATIOS, 3, 0)?;
+    assert!(rt; counts(&row, &other, 1, 0));
+    let carried = row_of_sized_program(rt.alloc(), &program, sizes.as_slice(), 3, 6)?;
+    let once = row_of_program(rt.alloc(), &program, &RATIOS, 1, 0)?;
+    assert!(rt; counts(&carried, &once, 24, 18));
     Ok(())
 }

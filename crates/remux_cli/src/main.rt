@@ -1,11 +1,11 @@
-//! The program: the words of the command line are those of a command, or `--help` or `--version`, each as the only word.
+//! The program: the words of the command line are those of a command, or `--help`, alone or with the name of a command, or `--version`.
 //!
 //! All that it promises stands on `command_line`.
 #![tactic(auto)]
 
 use command_line::{command, share_one_file};
 use command_words::Status;
-use help_text::{HELP, VERSION, told};
+use help_text::{HELP, VERSION, command_help, told};
 use std::process::ExitCode;
 use std::rt::{Env, Files};
 use std::{env, io};
@@ -32,6 +32,10 @@ fn words<R: Env + AllocGlobal>(rt: &R) -> io::Result<Vec<String>> {
 fn answer<R: Files + Print + Eprint + AllocGlobal>(rt: &R, words: &[String]) -> u8 {
     match words {
         [word] if word.as_str() == "--help" => told(rt, HELP),
+        [word, verb] if word.as_str() == "--help" => match command_help(verb.as_str()) {
+            Some(text) => told(rt, text),
+            None => command(rt, words),
+        },
         [word] if word.as_str() == "--version" => told(rt, VERSION),
         // Two names of one file are no command.
         _ if share_one_file(rt, words) => command(rt, &[]),

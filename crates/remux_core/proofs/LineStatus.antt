@@ -1,7 +1,7 @@
 -- Each line that a cause gives, but that of work that was done, tells its status.
 use Rattle.std.proofs.Common.{◌≡◌, ℕ, List, refl}
 use Rattle.job_report.specs.declared.report.Report.TheVariants as reports
-use Rattle.command_words.specs.declared.status.JobRefusal.TheVariants.{TableSyntax, TableLimit, JobSyntax, JobField, JobLimit}
+use Rattle.command_words.specs.declared.status.JobRefusal.TheVariants.{TableSyntax, TableLimit, JobSyntax, JobField, JobLimit, ListSyntax}
 use Rattle.command_words.specs.declared.status.CertRefusal.TheVariants.{Syntax, Fault}
 use Rattle.command_words.specs.declared.status.Status.{Status}
 use Rattle.command_words.specs.declared.status.Status.TheVariants as statuses
@@ -21,6 +21,7 @@ tells_status task old new (statuses.JobRefused (TableLimit name)) line cause not
 tells_status task old new (statuses.JobRefused JobSyntax) line cause not_done = record { report = refusal_report JobSyntax; line_is = cause.says; told = refl }
 tells_status task old new (statuses.JobRefused (JobField name)) line cause not_done = record { report = refusal_report (JobField name); line_is = cause.says; told = refl }
 tells_status task old new (statuses.JobRefused (JobLimit name)) line cause not_done = record { report = refusal_report (JobLimit name); line_is = cause.says; told = refl }
+tells_status task old new (statuses.JobRefused (ListSyntax n)) line cause not_done = record { report = refusal_report (ListSyntax n); line_is = cause.says; told = refl }
 tells_status task old new (statuses.SourceRefused fault) line cause not_done = record { report = source_report fault; line_is = cause.says; told = refl }
 tells_status task old new (statuses.CertRefused (Syntax byte)) line cause not_done = record { report = cert_report (Syntax byte); line_is = cause.says; told = refl }
 tells_status task old new (statuses.CertRefused (Fault fault)) line cause not_done = record { report = cert_report (Fault fault); line_is = cause.says; told = refl }
@@ -29,3 +30,4 @@ tells_status task old new statuses.ReadFault line cause not_done = record { repo
 tells_status task old new statuses.WriteFault line cause not_done = record { report = reports.WriteFault cause.name; line_is = cause.names; told = refl }
 tells_status task old new statuses.Missing line cause not_done = record { report = reports.Missing cause.name; line_is = cause.names; told = refl }
 tells_status task old new statuses.OutOfMemory line cause not_done = absurd cause
+tells_status task old new statuses.NoFit line cause not_done = record { report = reports.NoFit cause.0; line_is = cause.2; told = refl }

@@ -5,11 +5,12 @@ use Rattle.check_command.specs.CheckCommand.{CheckCallsFor}
 use Rattle.check_plan_command.specs.CheckPlanCommand.{CheckPlanCallsFor}
 use Rattle.command_words.specs.declared.status.Status.{Status}
 use Rattle.command_words.specs.declared.status.Status.TheVariants as statuses
-use Rattle.command_words.specs.Command.{Command, Plan, Gen, Run, Check, Probe, CheckPlan, Impossible}
+use Rattle.command_words.specs.Command.{Command, Plan, Gen, Run, Check, Probe, CheckPlan, Impossible, Fit}
 use Rattle.command_words.specs.Status.{IsSameStatus}
 use Rattle.command_words.specs.Task.{IsUsage}
 use Rattle.command_words.proofs.OneCommand.{one_command}
 use Rattle.command_words.proofs.SameStatus.{both_one}
+use Rattle.fit_command.specs.FitCommand.{FitCallsFor}
 use Rattle.gen_command.specs.GenCommand.{GenCallsFor}
 use Rattle.impossible_command.specs.ImpossibleCommand.{ImpossibleCallsFor}
 use Rattle.plan_command.specs.PlanCommand.{PlanCallsFor}
@@ -28,6 +29,7 @@ pub record Laws : Type 0 where
   pub check_plan : (table certificate : List ℕ) (files : Files) (s t : Status) → CheckPlanCallsFor table certificate (Some files) s
       → CheckPlanCallsFor table certificate (Some files) t → IsSameStatus s t
   pub impossible : (table : List ℕ) (files : Files) (s t : Status) → ImpossibleCallsFor table (Some files) s → ImpossibleCallsFor table (Some files) t → IsSameStatus s t
+  pub fit : (name list : List ℕ) (files : Files) (s t : Status) → FitCallsFor name list (Some files) s → FitCallsFor name list (Some files) t → IsSameStatus s t
 
 -- words of no command call for Usage alone
 usage_is_one : (s : Status) → IsUsage s → statuses.Usage ≡ s
@@ -41,6 +43,7 @@ usage_is_one statuses.ReadFault a = absurd a
 usage_is_one statuses.WriteFault a = absurd a
 usage_is_one statuses.Missing a = absurd a
 usage_is_one statuses.OutOfMemory a = absurd a
+usage_is_one statuses.NoFit a = absurd a
 
 -- a command and files call for one status
 pub calls_for_one : Laws → (command : Option Command) (files : Files) (s t : Status) → (task_of command).calls_for (Some files) s
@@ -52,6 +55,7 @@ calls_for_one laws (Some (Check job certificate)) files s t a b = laws.check job
 calls_for_one laws (Some (Probe file number table)) files s t a b = laws.probe file number files s t a b
 calls_for_one laws (Some (CheckPlan table certificate)) files s t a b = laws.check_plan table certificate files s t a b
 calls_for_one laws (Some (Impossible table)) files s t a b = laws.impossible table files s t a b
+calls_for_one laws (Some (Fit job list)) files s t a b = laws.fit job list files s t a b
 calls_for_one laws None files s t a b = both_one statuses.Usage s t (usage_is_one s a) (usage_is_one t b) refl
 
 -- words and files call for one status

@@ -25,6 +25,7 @@ use crate::top_call::run;
 use check_command::laws::check_calls_for_one;
 use check_plan_command::laws::check_plan_calls_for_one;
 use command_words::Status;
+use fit_command::laws::fit_calls_for_one;
 use gen_command::laws::gen_calls_for_one;
 use impossible_command::laws::impossible_calls_for_one;
 use plan_command::laws::plan_calls_for_one;
@@ -47,6 +48,7 @@ pub fn one_status_is_called_for()
     probe_calls_for_one();
     check_plan_calls_for_one();
     impossible_calls_for_one();
+    fit_calls_for_one();
 }
 
 /// The line of each status but that of work that was done tells the exit status.

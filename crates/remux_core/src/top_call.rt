@@ -15,6 +15,8 @@ use check_command::laws::check_calls_for_one;
 use check_plan_command::check_plan;
 use check_plan_command::laws::check_plan_calls_for_one;
 use command_words::{Ended, Parsed, Status, end_with, parse};
+use fit_command::fit_job;
+use fit_command::laws::fit_calls_for_one;
 use gen_command::gen_file;
 use gen_command::laws::gen_calls_for_one;
 use impossible_command::judge_file;
@@ -36,8 +38,8 @@ use std::alloc::Global;
 /// programs of the job in JOB, write their stream to OUT and the certificate of the plan to CERT. `check JOB CERT` read the same
 /// programs and check the certificate in CERT. `probe FILE PROGRAM TABLE` write the table of one program of FILE to TABLE.
 /// `check-plan TABLE CERT` check the certificate in CERT for the table in TABLE. `impossible TABLE` tell whether it is shown of the
-/// table in TABLE that no choice is scheduled. All other words are a usage fault. One line of JSON goes to `out` for each status but
-/// want of memory.
+/// table in TABLE that no choice is scheduled. `fit JOB LIST` tell in which of the slots in LIST the programs of the job in JOB
+/// fit. All other words are a usage fault. One line of JSON goes to `out` for each status but want of memory.
 pub fn run<K: Shelf, O: Sink>(alloc: Global, words: &[String], shelf: &mut K, out: &mut O) -> Status
     // What the words and files decide, what failed outside, how it is reported, and what every command promises.
     ensures outcome { Outcome (map string_bytes words.now)
@@ -78,6 +80,7 @@ pub fn run<K: Shelf, O: Sink>(alloc: Global, words: &[String], shelf: &mut K, ou
     probe_calls_for_one();
     check_plan_calls_for_one();
     impossible_calls_for_one();
+    fit_calls_for_one();
     let Some(ended) = perform(alloc, words, shelf) else {
         return Status::OutOfMemory;
     };
@@ -104,6 +107,7 @@ fn perform<K: Shelf>(alloc: Global, words: &[String], shelf: &mut K) -> Option<E
         Some(Parsed::Probe(words)) => probe_file(alloc, &words, shelf),
         Some(Parsed::CheckPlan(files)) => check_plan(alloc, &files, shelf),
         Some(Parsed::Impossible(files)) => judge_file(alloc, &files, shelf),
+        Some(Parsed::Fit(files)) => fit_job(alloc, &files, shelf),
         None => end_with(alloc, Status::Usage, &Report::Usage),
     }
 }

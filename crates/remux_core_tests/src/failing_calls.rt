@@ -23,6 +23,8 @@ const TABLE: &str =
 
 const UNREAD_JOB: &str = "{\"name\":\"j\",\"reason\":\"read\",\"status\":6}\n";
 
+const UNREAD_LIST: &str = "{\"name\":\"l\",\"reason\":\"read\",\"status\":6}\n";
+
 const UNREAD_PROGRAM: &str = "{\"name\":\"a.ts\",\"reason\":\"read\",\"status\":6}\n";
 
 const UNREAD_TABLE: &str = "{\"name\":\"t\",\"reason\":\"read\",\"status\":6}\n";
@@ -48,6 +50,7 @@ fn shelf_of(alloc: Global, failing: u64) -> Result<MemShelf, Fail> {
     let mut shelf = MemShelf::new(alloc, vec![in alloc; failing]?);
     shelf.put_file("j", JOB.as_bytes())?;
     shelf.put_file("t", TABLE.as_bytes())?;
+    shelf.put_file("l", b"4000\n")?;
     let program = make_program(alloc, 1, 12)?;
     shelf.put_file("a.ts", program.as_slice())?;
     shelf.put_file("o", b"kept")?;
@@ -287,6 +290,29 @@ fn calls_of_check(rt: HostRuntime) -> Result<(), Fail> {
     Ok(())
 }
 
+/// Two reads of the job, two of the list, and three of the program.
+#[test]
+fn calls_of_fit(rt: HostRuntime) -> Result<(), Fail> {
+    let wrong = first_wrong(
+        rt.alloc(),
+        &["fit", "j", "l"],
+        8,
+        &[
+            ended(2, 6, UNREAD_JOB, None),
+            ended(4, 6, UNREAD_LIST, None),
+            ended(7, 6, UNREAD_PROGRAM, None),
+        ],
+        &ended(
+            0,
+            0,
+            "{\"fit\":4000,\"slots\":[{\"slot\":4000,\"verdict\":\"scheduled\"}]}\n",
+            Some(4),
+        ),
+    )?;
+    assert_eq!(rt; wrong, None);
+    Ok(())
+}
+
 /// The first call of the sink, which takes the whole line: files are written by then.
 #[test]
 fn a_report_that_fails_is_a_write_fault(rt: HostRuntime) -> Result<(), Fail> {
@@ -298,6 +324,7 @@ fn a_report_that_fails_is_a_write_fault(rt: HostRuntime) -> Result<(), Fail> {
         (["check", "j", "o"].as_slice(), false),
         (["check-plan", "t", "o"].as_slice(), false),
         (["impossible", "t"].as_slice(), false),
+        (["fit", "j", "l"].as_slice(), false),
         (["none"].as_slice(), false),
     ] {
         let mut shelf = shelf_of(rt.alloc(), 0)?;

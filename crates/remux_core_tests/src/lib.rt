@@ -8,6 +8,8 @@ mod calls;
 #[cfg(test)]
 mod failing_calls;
 #[cfg(test)]
+mod fits;
+#[cfg(test)]
 mod generated;
 #[cfg(test)]
 mod jobs;

@@ -3,7 +3,7 @@ use shelf_kinds::CalmShelf;
 use std::test::Fail;
 
 /// Words that are no command.
-const NO_COMMANDS: [&[&str]; 42] = [
+const NO_COMMANDS: [&[&str]; 46] = [
     &[],
     &["plan", "t"],
     &["plan", "t", "t"],
@@ -36,6 +36,10 @@ const NO_COMMANDS: [&[&str]; 42] = [
     &["impossible"],
     &["impossible", ""],
     &["impossible", "t", "c"],
+    &["fit", "j"],
+    &["fit", "j", "j"],
+    &["fit", "", "l"],
+    &["fit", "j", ""],
     &["probe", "a", "1"],
     &["probe", "a", "0", "t"],
     &["probe", "a", "01", "t"],

@@ -32,7 +32,7 @@ use Rattle.requantiser.specs.declared.counts.Counts.{Counts}
 use Rattle.requantiser.specs.declared.tally.Tally.{Tally}
 use Rattle.requantiser.specs.declared.targets.Targets.{Targets}
 use Rattle.requantiser.specs.Private.Counts.{IsEndedBy, IsSized, IsTheTally, bits_by, next_by, tally_in}
-use Rattle.requantiser.specs.Private.Lengths.{AreLengths, length_by, table_number, table_numbered}
+use Rattle.requantiser.specs.Private.Lengths.{AreLengths, IsRow, length_by, table_number, table_numbered}
 use Rattle.requantiser.specs.Private.Changes.{pair_changes}
 use Rattle.requantiser.specs.Private.Tallies.{IsCounted, IsCountedBlock, IsEnded, IsTallied, bits_at, has_none}
 use Rattle.requantiser.specs.Private.Walk.{coarsened_pairs}
@@ -71,28 +71,46 @@ zero_at n i = by_place (cases_lt i n)
 
 -- nothing is known
 pub none_known : (n : ℕ) → AreLengths (replicate n 0)
-none_known n number run size r s some = absurd (omega (arith, some, zero_at n (1024 * number + 16 * run + size)))
+none_known n number run size r s some = absurd (omega (arith, some, zero_at n (1024 * number + 64 * size + run)))
 
 -- one more is known
-pub one_more_length : (lengths : List ℕ) (number run size bits place : ℕ) → place ≡ 1024 * number + 16 * run + size → place < length lengths → run < 64 → size < 16
+pub one_more_length : (lengths : List ℕ) (number run size bits place : ℕ) → place ≡ 1024 * number + 64 * size + run → place < length lengths → run < 64 → size < 16
     → bits ≡ length_by (table_numbered number) run size → bits ≤ 42 → 0 < size → AreLengths lengths → AreLengths (slice_set lengths place bits)
-one_more_length lengths number run size bits place at within r s value few some_size was number' run' size' r' s' = by_place (cases_order (1024 * number' + 16 * run' + size') place)
+one_more_length lengths number run size bits place at within r s value few some_size was number' run' size' r' s' = by_place (cases_order (1024 * number' + 64 * size' + run') place)
   where
-    by_place : (1024 * number' + 16 * run' + size' ≡ place) ⊎ ((1024 * number' + 16 * run' + size' < place) ⊎ (place < 1024 * number' + 16 * run' + size'))
-        → 0 < get_or (slice_set lengths place bits) (1024 * number' + 16 * run' + size') 0
-        → (get_or (slice_set lengths place bits) (1024 * number' + 16 * run' + size') 0 ≡ length_by (table_numbered number') run' size')
-        × (get_or (slice_set lengths place bits) (1024 * number' + 16 * run' + size') 0 ≤ 42) × (0 < size')
+    by_place : (1024 * number' + 64 * size' + run' ≡ place) ⊎ ((1024 * number' + 64 * size' + run' < place) ⊎ (place < 1024 * number' + 64 * size' + run'))
+        → 0 < get_or (slice_set lengths place bits) (1024 * number' + 64 * size' + run') 0
+        → (get_or (slice_set lengths place bits) (1024 * number' + 64 * size' + run') 0 ≡ length_by (table_numbered number') run' size')
+        × (get_or (slice_set lengths place bits) (1024 * number' + 64 * size' + run') 0 ≤ 42) × (0 < size')
     by_place (inl here) some =
         let same_number : number ≡ number' = omega (arith, here, at, r, s, r', s') in
         let same_run : run ≡ run' = omega (arith, here, at, r, s, r', s', same_number) in
         let same_size : size ≡ size' = omega (arith, here, at, same_number, same_run) in
-        let found : get_or (slice_set lengths place bits) (1024 * number' + 16 * run' + size') 0 ≡ bits =
+        let found : get_or (slice_set lengths place bits) (1024 * number' + 64 * size' + run') 0 ≡ bits =
         ap (λ n. get_or (slice_set lengths place bits) n 0) here ∙ get_or-set_same lengths place bits 0 within in
         (found ∙ value ∙ ap (λ n. length_by (table_numbered n) run size) same_number ∙ ap₂ (λ a b. length_by (table_numbered number') a b) same_run same_size, omega (arith, found, few), omega (arith, same_size, some_size))
     by_place (inr (inl there)) some = subst (λ (v : ℕ). 0 < v → (v ≡ length_by (table_numbered number') run' size') × (v ≤ 42) × (0 < size'))
-        (sym (get_or-set_other lengths place (1024 * number' + 16 * run' + size') bits 0 (λ e. absurd (omega (arith, e, there))))) (was number' run' size' r' s') some
+        (sym (get_or-set_other lengths place (1024 * number' + 64 * size' + run') bits 0 (λ e. absurd (omega (arith, e, there))))) (was number' run' size' r' s') some
     by_place (inr (inr past)) some = subst (λ (v : ℕ). 0 < v → (v ≡ length_by (table_numbered number') run' size') × (v ≤ 42) × (0 < size'))
-        (sym (get_or-set_other lengths place (1024 * number' + 16 * run' + size') bits 0 (λ e. absurd (omega (arith, e, past))))) (was number' run' size' r' s') some
+        (sym (get_or-set_other lengths place (1024 * number' + 64 * size' + run') bits 0 (λ e. absurd (omega (arith, e, past))))) (was number' run' size' r' s') some
+
+-- a length that is known by the row of a size
+pub known_by_row : (lengths : List ℕ) (number run row size value : ℕ) → AreLengths lengths → run < 64 → IsRow row size → value ≡ get_or lengths (1024 * number + row + run) 0 → 0 < value
+    → (value ≡ length_by (table_numbered number) run size) × (value ≤ 42) × (0 < size)
+known_by_row lengths number run row size value are within is at some = by_row (cases_lt 0 row)
+  where
+    by_row : (0 < row) ⊎ (row ≤ 0) → (value ≡ length_by (table_numbered number) run size) × (value ≤ 42) × (0 < size)
+    by_row (inl there) =
+        let same : row ≡ 64 * size = is.1 there in
+        let few : size < 16 = omega (arith, same, is.0) in
+        let here : get_or lengths (1024 * number + row + run) 0 ≡ get_or lengths (1024 * number + 64 * size + run) 0 = ap (λ (n : ℕ). get_or lengths (1024 * number + n + run) 0) same in
+        let known = are number run size within few (omega (arith, at, here, some)) in
+        (at ∙ here ∙ known.0, omega (arith, at, here, known.1), known.2)
+    by_row (inr none) =
+        let same : row ≡ 64 * 0 = omega (arith, none) in
+        let here : get_or lengths (1024 * number + row + run) 0 ≡ get_or lengths (1024 * number + 64 * 0 + run) 0 = ap (λ (n : ℕ). get_or lengths (1024 * number + n + run) 0) same in
+        let known = are number run 0 within (omega arith) (omega (arith, at, here, some)) in
+        absurd (omega (arith, known.2))
 
 -- ---- one coefficient
 

@@ -38,5 +38,6 @@ pub mod LawfulVersions
 pub mod Tallies
 pub mod BlockTallies
 pub mod Outlines
+pub mod StayedHeads
 pub mod Counted
 pub mod Rungs

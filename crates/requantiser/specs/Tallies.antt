@@ -1,5 +1,5 @@
 -- What is counted of the coefficients of a macroblock in a version that isn't made, and what becomes of the macroblock there.
-use Rattle.std.specs.Prelude.{◌≡◌, ◌≤◌, ◌+◌, ◌-◌, ◌^◌, ◌==◌, ◌&&◌, ℕ, not, Option, Some, None, is_some, IfSome, List, [], length, map, slice_index_or, Bool}
+use Rattle.std.specs.Prelude.{◌≡◌, ◌≤◌, ◌+◌, ◌-◌, ◌^◌, ◌==◌, ◌&&◌, ℕ, not, Option, Some, None, is_none, is_some, IfSome, List, [], length, map, slice_index_or, Bool}
 use Rattle.std.specs.Option.{option_to_list}
 use Rattle.std.specs.List.{flat_map, range_with_len, sum_by}
 use Rattle.quant_math.specs.Scales.{IsMappedCode}
@@ -23,7 +23,7 @@ use Rattle.requantiser.specs.declared.version_state.VersionState.{VersionState}
 use Rattle.requantiser.specs.Blocks.{AreCoarserBlocks}
 use Rattle.requantiser.specs.Distortion.{coefficient_of_macroblock, difference_of}
 use Rattle.requantiser.specs.Levels.{coefficient_at, scan_place}
-use Rattle.requantiser.specs.Macroblocks.{IsCoarserAt, pattern_of}
+use Rattle.requantiser.specs.Macroblocks.{IsCoarserAt, is_coded_without_motion, pattern_of}
 use Rattle.requantiser.specs.VersionState.{IsStateBehind}
 
 -- in how many bits more the coefficients of a block are written than none (ISO/IEC 13818-2, 6.2.6)
@@ -44,6 +44,16 @@ pub record IsTallyOf (seq : SeqState) (coding : PicCoding) (code m : ℕ) (from 
       (λ i index. coefficient_at seq coding (block_way coding from.kind i) code (slice_index_or from.blocks i no_block) (scan_place coding.alternate_scan index))
       (λ i index. coefficient_at seq coding (block_way coding from.kind i) tally.target.code (slice_index_or blocks i no_block) (scan_place coding.alternate_scan index))
   pub small : tally.distortion ≤ 2 ^ 41
+
+-- A macroblock stays as it is in a version but for its coefficients: it has no code, none is skipped before it there, the code in
+-- force there is the one that it quantises by, and it has coefficients left or motion. So its head says there what it says in the
+-- source but for coded_block_pattern (ISO/IEC 13818-2, 6.2.5).
+abbrev pub has_stayed : Tally → VersionState → Macroblock → Bool
+has_stayed tally state from =
+    is_none from.code
+    && (state.skipped == 0)
+    && (state.version_code == tally.target.code)
+    && not (is_coded_without_motion from.kind && (tally.pattern == 0))
 
 -- macroblock_type under a head: the source's, but that a code and a pattern stand where the head has them
 abbrev pub kind_under : Kind → Head → Kind

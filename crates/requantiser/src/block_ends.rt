@@ -10,19 +10,19 @@ use crate::tally::VERSIONS_AT_ONCE;
 
 /// In which versions a block is coded, 1 where it is: where a place behind its first one comes next.
 #[inline]
-pub fn coded_in(next: &[u8; VERSIONS_AT_ONCE], first: u8) -> [u8; VERSIONS_AT_ONCE]
+pub fn coded_in(next: &[u32; VERSIONS_AT_ONCE], first: u32) -> [u32; VERSIONS_AT_ONCE]
     ensures { (k : ℕ) → k < 8 → slice_index result k ≡ flag (not (slice_index next.now k == first)) }
 {
     let mut coded = [0; VERSIONS_AT_ONCE];
     for k in 0..VERSIONS_AT_ONCE {
-        coded[k] = u8::from(next[k] != first);
+        coded[k] = u32::from(next[k] != first);
     }
     coded
 }
 
 /// Adds the bits of the end of a block where it is coded, but none in an intra block, where it stands in each.
 #[inline]
-pub fn add_ends(bits: &mut [u32; VERSIONS_AT_ONCE], coded: &[u8; VERSIONS_AT_ONCE], intra: bool)
+pub fn add_ends(bits: &mut [u32; VERSIONS_AT_ONCE], coded: &[u32; VERSIONS_AT_ONCE], intra: bool)
     requires flags { (k : ℕ) → k < 8 → slice_index coded.now k ≤ 1 }
     requires room { (k : ℕ) → k < 8 → slice_index bits.old k ≤ 2 ^ 20 }
     ensures each { (k : ℕ) → k < 8 → slice_index bits.new k ≡ slice_index bits.old k + (if intra then 0 else length (code_for CoeffZero END_OF_BLOCK)) * slice_index coded.now k }
@@ -36,7 +36,7 @@ pub fn add_ends(bits: &mut [u32; VERSIONS_AT_ONCE], coded: &[u8; VERSIONS_AT_ONC
 
 /// Adds so many bits where a block is coded.
 #[inline]
-fn add_to_coded(bits: &mut [u32; VERSIONS_AT_ONCE], coded: &[u8; VERSIONS_AT_ONCE], end: u32)
+fn add_to_coded(bits: &mut [u32; VERSIONS_AT_ONCE], coded: &[u32; VERSIONS_AT_ONCE], end: u32)
     requires few { end ≤ 24 }
     requires flags { (k : ℕ) → k < 8 → slice_index coded.now k ≤ 1 }
     requires room { (k : ℕ) → k < 8 → slice_index bits.old k ≤ 2 ^ 20 }
@@ -49,19 +49,19 @@ fn add_to_coded(bits: &mut [u32; VERSIONS_AT_ONCE], coded: &[u8; VERSIONS_AT_ONC
 
 /// The bits of the end of a block in a version.
 #[inline]
-fn end_at(coded: &[u8; VERSIONS_AT_ONCE], k: usize, end: u32) -> u32
+fn end_at(coded: &[u32; VERSIONS_AT_ONCE], k: usize, end: u32) -> u32
     requires k { k < VERSIONS_AT_ONCE }
     requires few { end ≤ 24 }
     requires flag { slice_index coded.now k ≤ 1 }
     ensures value { result ≡ end * slice_index coded.now k }
     ensures few { result ≤ 24 }
 {
-    end * u32::from(coded[k])
+    end * coded[k]
 }
 
 /// Puts a block, coded or not, behind those of each pattern.
 #[inline]
-pub fn add_blocks(patterns: &mut [u8; VERSIONS_AT_ONCE], coded: &[u8; VERSIONS_AT_ONCE])
+pub fn add_blocks(patterns: &mut [u32; VERSIONS_AT_ONCE], coded: &[u32; VERSIONS_AT_ONCE])
     requires flags { (k : ℕ) → k < 8 → slice_index coded.now k ≤ 1 }
     requires room { (k : ℕ) → k < 8 → slice_index patterns.old k < 2 ^ 6 }
     ensures { (k : ℕ) → k < 8 → slice_index patterns.new k ≡ 2 * slice_index patterns.old k + slice_index coded.now k }

@@ -15,8 +15,8 @@ pub struct Codes {
 pub struct Target {
     /// The quantiser_scale_code that the one in force is mapped to.
     pub code: u8,
-    /// Its quantiser_scale.
-    pub scale: u16,
+    /// Its quantiser_scale, at most 112.
+    pub scale: u8,
     ghost is_code: { IsCode code },
     ghost range: { (1 ≤ scale) × (scale ≤ 112) },
 }

@@ -2,7 +2,7 @@
 ghost use Rattle.std.specs.Prelude.{◌≡◌, ◌≢◌, ◌<◌, ◌≤◌, ◌+◌, ◌*◌, ◌^◌, ℕ, slice_index, if◌then◌else◌};
 ghost use Rattle.syntax_types.specs.declared.block.BlockWay.{BlockWay as WayOf};
 ghost use Rattle.requantiser.specs.Private.Counts.{IsEndedBy, IsSized, IsTheTally};
-ghost use Rattle.requantiser.specs.Private.Lengths.{table_number as number_of};
+ghost use Rattle.requantiser.specs.Private.Lengths.{IsRow, table_number as number_of};
 
 use crate::block_ends::{add_blocks, add_ends, coded_in};
 use crate::code_lengths::TABLES;
@@ -16,8 +16,8 @@ use syntax_types::{BLOCK_PLACES, BlockWay};
 /// What was counted of the coefficients of a macroblock in each version: the fields of its tally.
 #[derive(Clone, Copy)]
 pub struct Counts {
-    pub next: [u8; VERSIONS_AT_ONCE],
-    pub patterns: [u8; VERSIONS_AT_ONCE],
+    pub next: [u32; VERSIONS_AT_ONCE],
+    pub patterns: [u32; VERSIONS_AT_ONCE],
     pub bits: [u32; VERSIONS_AT_ONCE],
     /// The squares of the differences of a macroblock's coefficients fit 32 bits.
     pub squares: [u32; VERSIONS_AT_ONCE],
@@ -32,7 +32,7 @@ impl Counts {
         ensures squares { (k : ℕ) → k < 8 → slice_index result.squares k ≡ 0 }
     {
         Counts {
-            next: [u8::from(intra); VERSIONS_AT_ONCE],
+            next: [u32::from(intra); VERSIONS_AT_ONCE],
             patterns: [0; VERSIONS_AT_ONCE],
             bits: [0; VERSIONS_AT_ONCE],
             squares: [0; VERSIONS_AT_ONCE],
@@ -41,7 +41,9 @@ impl Counts {
 
     /// The tally of a version.
     pub fn tally(&self, targets: &Targets, number: usize) -> Tally
-        requires { number < VERSIONS_AT_ONCE }
+        requires number { number < VERSIONS_AT_ONCE }
+        requires next { slice_index self.now.next number ≤ 64 }
+        requires pattern { slice_index self.now.patterns number < 2 ^ 6 }
         ensures { IsTheTally targets.now self.now number result }
     {
         Tally {
@@ -49,31 +51,16 @@ impl Counts {
                 code: targets.codes[number],
                 scale: targets.scales[number],
             },
-            next: self.next[number],
-            pattern: self.patterns[number],
+            next: self.next[number] as u8,
+            pattern: self.patterns[number] as u8,
             bits: self.bits[number],
             distortion: u64::from(self.squares[number]),
         }
     }
 
-    /// Adds the squares of the differences of a coefficient.
-    #[inline]
-    pub fn add_squares(&mut self, squares: &[u32; VERSIONS_AT_ONCE])
-        requires room { (k : ℕ) → k < 8 → slice_index self.old.squares k ≤ 2 ^ 31 + 2 ^ 29 }
-        requires small { (k : ℕ) → k < 8 → slice_index squares.now k ≤ 2 ^ 22 }
-        ensures each { (k : ℕ) → k < 8 → slice_index self.new.squares k ≡ slice_index self.old.squares k + slice_index squares.now k }
-        ensures next { self.new.next ≡ self.old.next }
-        ensures patterns { self.new.patterns ≡ self.old.patterns }
-        ensures bits { self.new.bits ≡ self.old.bits }
-    {
-        for k in 0..VERSIONS_AT_ONCE {
-            self.squares[k] += squares[k];
-        }
-    }
-
     /// Adds the bits of a coefficient in each version in which it isn't 0, by the table with this number, the one of its place.
     #[inline]
-    pub fn add_sizes(&mut self, table: usize, at: u8, rung: &Rung, lengths: &mut Lengths)
+    pub fn add_sizes(&mut self, table: usize, at: u32, rung: &Rung, lengths: &mut Lengths)
         requires table { table < TABLES }
         requires at { at < BLOCK_PLACES }
         requires next { (k : ℕ) → k < 8 → slice_index self.old.next k ≤ at }
@@ -84,14 +71,23 @@ impl Counts {
         ensures squares { self.new.squares ≡ self.old.squares }
     {
         for k in 0..usize::from(rung.living) {
-            self.add_size(k, table, at, rung.sizes[k], lengths);
+            self.add_size(k, table, at, rung.sizes[k], rung.rows[k], lengths);
         }
     }
 
-    /// The same in one version.
+    /// The same in one version, by its size and the row of that.
     #[inline]
-    fn add_size(&mut self, k: usize, table: usize, at: u8, size: u16, lengths: &mut Lengths)
+    fn add_size(
+        &mut self,
+        k: usize,
+        table: usize,
+        at: u32,
+        size: u16,
+        row: u16,
+        lengths: &mut Lengths,
+    )
         requires k { k < VERSIONS_AT_ONCE }
+        requires row { IsRow row size }
         requires table { table < TABLES }
         requires at { at < BLOCK_PLACES }
         requires next { slice_index self.old.next k ≤ at }
@@ -102,7 +98,7 @@ impl Counts {
         ensures squares { self.new.squares ≡ self.old.squares }
     {
         let next = self.next[k];
-        let known = lengths.known(table, at - next, size);
+        let known = lengths.known(table, at - next, row);
         if known == 0 {
             self.add_rare_size(k, table, at, size, lengths);
             return;
@@ -114,7 +110,7 @@ impl Counts {
     /// The same of one that is 0, or whose bits aren't known.
     #[cold]
     #[inline(never)]
-    fn add_rare_size(&mut self, k: usize, table: usize, at: u8, size: u16, lengths: &mut Lengths)
+    fn add_rare_size(&mut self, k: usize, table: usize, at: u32, size: u16, lengths: &mut Lengths)
         requires k { k < VERSIONS_AT_ONCE }
         requires table { table < TABLES }
         requires at { at < BLOCK_PLACES }
@@ -142,7 +138,7 @@ impl Counts {
             (slice_index self.new.next k) (slice_index self.new.patterns k) (slice_index self.new.bits k) }
         ensures squares { self.new.squares ≡ self.old.squares }
     {
-        let first = u8::from(way.intra);
+        let first = u32::from(way.intra);
         let coded = coded_in(&self.next, first);
         add_ends(&mut self.bits, &coded, way.intra);
         add_blocks(&mut self.patterns, &coded);
@@ -159,5 +155,17 @@ impl Counts {
         ensures squares { self.new.squares ≡ self.old.squares }
     {
         add_blocks(&mut self.patterns, &[0; VERSIONS_AT_ONCE]);
+    }
+}
+
+/// Adds the squares of the differences of a coefficient.
+#[inline]
+pub fn add_squares(squares: &mut [u32; VERSIONS_AT_ONCE], more: &[u32; VERSIONS_AT_ONCE])
+    requires room { (k : ℕ) → k < 8 → slice_index squares.old k ≤ 2 ^ 31 + 2 ^ 29 }
+    requires small { (k : ℕ) → k < 8 → slice_index more.now k ≤ 2 ^ 22 }
+    ensures { (k : ℕ) → k < 8 → slice_index squares.new k ≡ slice_index squares.old k + slice_index more.now k }
+{
+    for k in 0..VERSIONS_AT_ONCE {
+        squares[k] += more[k];
     }
 }

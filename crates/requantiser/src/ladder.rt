@@ -1,9 +1,9 @@
 //! What levels become in several versions, kept for those that come again.
 ghost use Rattle.std.specs.Prelude.{◌≡◌, ◌<◌, ◌≤◌, ◌+◌, ◌/◌, ◌%◌, ◌+ℤ◌, pos, slice_index_or, IsTrue};
-ghost use Rattle.requantiser.specs.Private.Rungs.{AreRescaled, AreRescaledBy, IsGoneFrom, way_number};
+ghost use Rattle.requantiser.specs.Private.Rungs.{AreRescaled, AreRescaledBy, AreRows, IsGoneFrom, way_number};
 
 use crate::codes::Target;
-use crate::lengths::Lengths;
+use crate::lengths::{Lengths, row_of};
 use crate::level::{Coefficient, Rescaling, change_level};
 use crate::tally::VERSIONS_AT_ONCE;
 use crate::targets::{KeptTargets, Targets};
@@ -20,15 +20,18 @@ pub struct Rung {
     /// From this version on it becomes 0.
     pub living: u16,
     /// The quantiser_scales of the versions.
-    scales: [u16; VERSIONS_AT_ONCE],
+    scales: [u8; VERSIONS_AT_ONCE],
     /// The sizes of the levels that it becomes.
     pub sizes: [u16; VERSIONS_AT_ONCE],
+    /// Where the lengths of these sizes stand in a table.
+    pub rows: [u16; VERSIONS_AT_ONCE],
     /// The squares of the differences of the coefficients.
     pub squares: [u32; VERSIONS_AT_ONCE],
     ghost right: { AreRescaledBy level (key % 65536) scales sizes squares },
     ghost keyed: { pos (key / 65536) ≡ level +ℤ pos 2048 },
     ghost few: { living ≤ 8 },
     ghost gone: { IsGoneFrom living sizes },
+    ghost placed: { AreRows rows sizes },
 }
 
 /// What a coefficient becomes.
@@ -58,6 +61,7 @@ impl Rung {
             living,
             scales: targets.scales,
             sizes,
+            rows: rows_of(&sizes),
             squares,
         }
     }
@@ -95,7 +99,7 @@ fn rescale(coefficient: Coefficient, rescaling: Rescaling, targets: &Targets) ->
     let mut squares = [0; VERSIONS_AT_ONCE];
     let mut living = 0;
     for k in 0..VERSIONS_AT_ONCE {
-        let to = rescaling.with_scale(targets.scales[k]);
+        let to = rescaling.with_scale(u16::from(targets.scales[k]));
         let change = change_level(coefficient.level, coefficient.weight, to);
         let size = change.level.unsigned_abs();
         sizes[k] = size;
@@ -107,6 +111,17 @@ fn rescale(coefficient: Coefficient, rescaling: Rescaling, targets: &Targets) ->
         squares,
         living,
     }
+}
+
+/// Where the lengths of these sizes stand in a table.
+fn rows_of(sizes: &[u16; VERSIONS_AT_ONCE]) -> [u16; VERSIONS_AT_ONCE]
+    ensures { AreRows result sizes.now }
+{
+    let mut rows = [0; VERSIONS_AT_ONCE];
+    for k in 0..VERSIONS_AT_ONCE {
+        rows[k] = row_of(sizes[k]);
+    }
+    rows
 }
 
 /// From which version on a level becomes 0, among those up to one in which it has this size.
@@ -174,15 +189,15 @@ impl Rungs {
     pub fn rung_of(
         &mut self,
         coefficient: Coefficient,
-        rescaling: Rescaling,
+        rescaling: &Rescaling,
         targets: &Targets,
     ) -> &Rung
         ensures level { result.now.level ≡ coefficient.level }
-        ensures number { result.now.key % 65536 ≡ way_number coefficient.weight rescaling.from rescaling.intra }
+        ensures number { result.now.key % 65536 ≡ way_number coefficient.weight rescaling.now.from rescaling.now.intra }
         ensures scales { result.now.scales ≡ targets.now.scales }
     {
-        let place = place_of(coefficient, rescaling);
-        if !self.rungs[place].is_of(coefficient, rescaling, targets) {
+        let place = place_of(coefficient, *rescaling);
+        if !self.rungs[place].is_of(coefficient, *rescaling, targets) {
             self.make(place, coefficient, rescaling, targets);
         }
         &self.rungs[place]
@@ -195,14 +210,14 @@ impl Rungs {
         &mut self,
         place: usize,
         coefficient: Coefficient,
-        rescaling: Rescaling,
+        rescaling: &Rescaling,
         targets: &Targets,
     )
         requires { place < RUNGS }
         ensures { (d : RungOf) → let rung : RungOf = slice_index_or self.new.rungs place d in
-            (rung.level ≡ coefficient.level) × (rung.key % 65536 ≡ way_number coefficient.weight rescaling.from rescaling.intra) × (rung.scales ≡ targets.now.scales) }
+            (rung.level ≡ coefficient.level) × (rung.key % 65536 ≡ way_number coefficient.weight rescaling.now.from rescaling.now.intra) × (rung.scales ≡ targets.now.scales) }
     {
-        self.rungs[place] = Rung::new(coefficient, rescaling, targets);
+        self.rungs[place] = Rung::new(coefficient, *rescaling, targets);
     }
 }
 

@@ -1,6 +1,6 @@
 //! How many bits the codes of coefficients have, kept for those that come again.
-ghost use Rattle.std.specs.Prelude.{◌≡◌, ◌<◌, ◌≤◌, ◌+◌, ◌*◌};
-ghost use Rattle.requantiser.specs.Private.Lengths.{AreLengths, length_by, table_numbered};
+ghost use Rattle.std.specs.Prelude.{◌≡◌, ◌<◌, ◌≤◌, ◌+◌, ◌*◌, ℕ};
+ghost use Rattle.requantiser.specs.Private.Lengths.{AreLengths, IsRow, length_by, table_numbered};
 
 use crate::code_lengths::{TABLES, coefficient_bits, numbered};
 
@@ -12,9 +12,21 @@ const SIZES: usize = 16;
 /// The lengths of coefficients as far as they were asked for.
 #[derive(Drop)]
 pub struct Lengths {
-    /// By table, run and size; 0 where none was asked for.
+    /// By table, size and run; 0 where none was asked for.
     bits: [u8; TABLES * RUNS * SIZES],
     ghost right: { AreLengths bits },
+}
+
+/// Where the lengths of a size stand in a table, 0 where it has no place.
+#[inline]
+pub fn row_of(size: u16) -> u16
+    ensures { IsRow result size }
+{
+    if usize::from(size) < SIZES {
+        RUNS as u16 * size
+    } else {
+        0
+    }
 }
 
 impl Lengths {
@@ -25,23 +37,21 @@ impl Lengths {
         }
     }
 
-    /// The bits of a coefficient by the table with this number, where they are known, else 0.
+    /// The bits of a coefficient by the table with this number, where they are known, else 0, by the row of its size.
     #[inline]
-    pub fn known(&self, number: usize, run: u8, size: u16) -> u32
+    pub fn known(&self, number: usize, run: u32, row: u16) -> u32
         requires number { number < TABLES }
         requires run { run < RUNS }
-        ensures value { 0 < result → (result ≡ length_by (table_numbered number) run size) × (0 < size) }
+        requires row { (size : ℕ) × IsRow row size }
+        ensures value { (size : ℕ) → IsRow row size → 0 < result → (result ≡ length_by (table_numbered number) run size) × (0 < size) }
         ensures few { result ≤ 42 }
     {
-        if usize::from(size) >= SIZES {
-            return 0;
-        }
-        let place = RUNS * SIZES * number + SIZES * usize::from(run) + usize::from(size);
+        let place = RUNS * SIZES * number + usize::from(row) + run as usize;
         u32::from(self.bits[place])
     }
 
     /// The bits of a coefficient by the table with this number, which are kept from now on.
-    pub fn ask(&mut self, number: usize, run: u8, size: u16) -> u32
+    pub fn ask(&mut self, number: usize, run: u32, size: u16) -> u32
         requires number { number < TABLES }
         requires run { run < RUNS }
         requires some { 0 < size }
@@ -49,13 +59,13 @@ impl Lengths {
         ensures few { result ≤ 42 }
     {
         if usize::from(size) >= SIZES {
-            return coefficient_bits(numbered(number), run, size);
+            return coefficient_bits(numbered(number), run as u8, size);
         }
         self.keep(number, run, size)
     }
 
     /// The same of one that has room.
-    fn keep(&mut self, number: usize, run: u8, size: u16) -> u32
+    fn keep(&mut self, number: usize, run: u32, size: u16) -> u32
         requires number { number < TABLES }
         requires run { run < RUNS }
         requires size { size < SIZES }
@@ -63,8 +73,8 @@ impl Lengths {
         ensures value { result ≡ length_by (table_numbered number) run size }
         ensures few { result ≤ 42 }
     {
-        let bits = coefficient_bits(numbered(number), run, size);
-        let place = RUNS * SIZES * number + SIZES * usize::from(run) + usize::from(size);
+        let bits = coefficient_bits(numbered(number), run as u8, size);
+        let place = RUNS * SIZES * number + RUNS * usize::from(size) + run as usize;
         self.bits[place] = bits as u8;
         bits
     }

@@ -31,7 +31,9 @@ pub use head::Head;
 pub use kept_levels::KeptLevels;
 pub use ladder::Ladder;
 pub use macroblock_tally::tally_macroblock;
-pub use outline::{Outline, Outlined, coded_head, is_emptied, outline_macroblock};
+pub use outline::{
+    Outline, Outlined, coded_head, is_emptied, outline_macroblock, stayed_head, stays,
+};
 pub use picture::coarsen;
 pub use step::{Coarsened, coarsen_macroblock, requantise_macroblock};
 pub use tally::{Tally, VERSIONS_AT_ONCE};

@@ -1,5 +1,5 @@
 //! The coefficients of a macroblock, counted in several versions at once.
-ghost use Rattle.std.specs.Prelude.{◌≡◌, ◌<◌, ◌≤◌, ℕ, length, slice_index, slice_index_or, unwrap_or};
+ghost use Rattle.std.specs.Prelude.{◌≡◌, ◌<◌, ◌≤◌, ◌^◌, ℕ, length, slice_index, slice_index_or, unwrap_or};
 ghost use Rattle.quant_math.specs.Scales.{IsCode};
 ghost use Rattle.picture_grammar.specs.Block.{first_place};
 ghost use Rattle.requantiser.specs.declared.tally.Tally.{Tally as TallyOf};
@@ -43,6 +43,9 @@ pub fn tally_macroblock(
     ensures tallies { (k : ℕ) (d : TallyOf) → k < length ratios.now → IsTallyOf seq.now coding.now (unwrap_or from.now.code before) (slice_index ratios.now k) from.now (slice_index_or tallies.new k d) }
 {
     let code = code_in_force(from.code, before);
+    if ratios.is_empty() {
+        return code;
+    }
     let targets = ladder.targets.of(coding.q_scale_type, code, ratios);
     let mut counts = Counts::new(from.kind.intra);
     add_blocks(seq, coding, code, from, &targets, &mut counts, ladder);
@@ -58,6 +61,8 @@ fn write_tallies(
     tallies: &mut [Tally; VERSIONS_AT_ONCE],
 )
     requires count { count ≤ VERSIONS_AT_ONCE }
+    requires next { (k : ℕ) → k < 8 → slice_index counts.now.next k ≤ 64 }
+    requires patterns { (k : ℕ) → k < 8 → slice_index counts.now.patterns k < 2 ^ 6 }
     ensures { (k : ℕ) (d : TallyOf) → k < count → IsTheTally targets.now counts.now k (slice_index_or tallies.new k d) }
 {
     for k in 0..count {

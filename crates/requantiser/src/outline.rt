@@ -1,12 +1,13 @@
 //! What becomes of a macroblock in a version in which its coefficients were counted, told by its head there.
-ghost use Rattle.std.specs.Prelude.{◌≡◌, ◌<◌, ◌≤◌, ◌+◌, ◌^◌, ◌==◌, ◌&&◌, Bool, false, unwrap_or};
+ghost use Rattle.std.specs.Prelude.{◌≡◌, ◌<◌, ◌≤◌, ◌+◌, ◌^◌, ◌==◌, ◌&&◌, Bool, Option, true, false, if◌then◌else◌, unwrap_or};
 ghost use Rattle.requantiser.specs.Macroblocks.{is_coded_without_motion as stands_without_motion};
 ghost use Rattle.requantiser.specs.Levels.{HasWeights};
 ghost use Rattle.syntax_types.specs.declared.macroblock.Macroblock.{Macroblock as MacroblockOf};
 ghost use Rattle.syntax_types.specs.declared.picture.PicCoding.{PicCoding as CodingOf};
 ghost use Rattle.syntax_types.specs.declared.picture.SeqState.{SeqState as SeqOf};
 ghost use Rattle.requantiser.specs.declared.outline.Outline.TheVariants.{Coded};
-ghost use Rattle.requantiser.specs.Tallies.{IsOutlined, IsTallyOf, told_by};
+ghost use Rattle.requantiser.specs.Tallies.{IsOutlined, IsTallyOf, has_stayed, told_by};
+ghost use Rattle.requantiser.specs.declared.version_state.VersionState.{VersionState as StateOf};
 ghost use Rattle.requantiser.specs.VersionState.{IsSpelledMacroblock, made_of};
 
 use crate::head::Head;
@@ -107,6 +108,34 @@ pub fn coded_head(tally: Tally, state: &mut VersionState, from: &Macroblock) -> 
     state.version_code = code_in_force(head.code, state.version_code);
     state.skipped = 0;
     head
+}
+
+/// A macroblock stays as it is in a version but for its coefficients: it has no code, none is skipped before it there, the code
+/// in force there is the one that it quantises by, and it has coefficients left or motion.
+#[inline]
+pub fn stays(tally: &Tally, state: &VersionState, from: &Macroblock) -> bool
+    ensures { result ≡ has_stayed tally.now state.now from.now }
+{
+    from.code.is_none()
+        && state.skipped == 0
+        && state.version_code == tally.target.code
+        && !(is_coded_without_motion(from.kind) && tally.pattern == 0)
+}
+
+/// The head of a macroblock that some bits spell in a version in which its coefficients were counted and it stays as it is.
+/// The state stays too.
+#[inline]
+pub fn stayed_head(tally: &Tally, from: &Macroblock) -> Head
+    ensures value { result ≡ record { skipped_before = from.now.skipped_before; code = Option.None; pattern = (if from.now.kind.intra then 0 else tally.now.pattern) } }
+    ensures outlined { (seq : SeqOf) (coding : CodingOf) (inner : Bool) (state : StateOf) (lent : MacroblockOf) → has_stayed tally.now state from.now ≡ true
+        → IsSpelledMacroblock coding from.now → IsTallyOf seq coding (unwrap_or from.now.code state.source_code) state.m from.now tally.now
+        → IsOutlined seq coding inner from.now state state (record { outline = Coded result; bits = tally.now.bits; distortion = tally.now.distortion }) lent }
+{
+    Head {
+        skipped_before: from.skipped_before,
+        code: None,
+        pattern: written_pattern(from.kind.intra, tally.pattern),
+    }
 }
 
 /// A macroblock of this type without motion has no coefficients left in a version in which they were counted.

@@ -5,7 +5,7 @@ ghost use Rattle.picture_grammar.specs.Block.{first_place};
 ghost use Rattle.picture_grammar.specs.Picture.{AreWeights};
 ghost use Rattle.requantiser.specs.Private.Changes.{change_in, level_change, new_level_in};
 ghost use Rattle.syntax_types.specs.declared.block.BlockWay.{BlockWay as WayOf};
-ghost use Rattle.requantiser.specs.Private.Counts.{EachIs, EachWent};
+ghost use Rattle.requantiser.specs.Private.Counts.{EachIs, EachWent, with_squares};
 ghost use Rattle.requantiser.specs.Private.Lengths.{table_number as number_of};
 ghost use Rattle.requantiser.specs.Private.Shapes.{FitBlock};
 ghost use Rattle.requantiser.specs.Private.Tallies.{HasRoom, IsBlockTallied, IsCounted, IsCountedBlock, StartsBlock};
@@ -13,7 +13,7 @@ ghost use Rattle.requantiser.specs.Private.Tallies.{HasRoom, IsBlockTallied, IsC
 use crate::block::weight_in_scan;
 use crate::code_lengths::{TABLES, table_at, table_number};
 use crate::codes::Target;
-use crate::counts::Counts;
+use crate::counts::{Counts, add_squares};
 use crate::ladder::Ladder;
 use crate::level::{Coefficient, Rescaling};
 use crate::targets::Targets;
@@ -76,24 +76,26 @@ pub fn add_block(
     counts.end_block(way);
 }
 
-/// Counts a coefficient in all versions, whose bits are those of the table with this number, the one of its place.
+/// Counts a coefficient in all versions, its squares in sums of their own, whose bits are those of the table with this number, the one of its place.
 #[inline]
 fn add_coefficient(
     counts: &mut Counts,
+    squares: &mut [u32; VERSIONS_AT_ONCE],
     targets: &Targets,
     table: usize,
-    rescaling: Rescaling,
+    rescaling: &Rescaling,
     coefficient: Coefficient,
     ladder: &mut Ladder,
 )
     requires table { table < TABLES }
-    requires room { EachIs (HasRoom coefficient.at) targets.now counts.old }
-    ensures { (way : WayOf) → table ≡ number_of way coefficient.at → EachWent (λ before behind. IsCounted way coefficient.at (coarser_level coefficient.level coefficient.weight rescaling.from before.target.scale rescaling.intra)
-        (level_change coefficient.level coefficient.weight rescaling.from before.target.scale rescaling.intra) before behind) targets.now counts.old counts.new }
+    requires room { EachIs (HasRoom coefficient.at) targets.now (with_squares counts.old squares.old) }
+    ensures { (way : WayOf) → table ≡ number_of way coefficient.at → EachWent (λ before behind. IsCounted way coefficient.at (coarser_level coefficient.level coefficient.weight rescaling.now.from before.target.scale rescaling.now.intra)
+        (level_change coefficient.level coefficient.weight rescaling.now.from before.target.scale rescaling.now.intra) before behind) targets.now (with_squares counts.old squares.old) (with_squares counts.new squares.new) }
 {
     let rung = ladder.rungs.rung_of(coefficient, rescaling, targets);
-    counts.add_squares(&rung.squares);
-    counts.add_sizes(table, coefficient.at, rung, &mut ladder.lengths);
+    add_squares(squares, &rung.squares);
+    let at = u32::from(coefficient.at);
+    counts.add_sizes(table, at, rung, &mut ladder.lengths);
 }
 
 /// Counts the coefficients of a block in all versions.
@@ -116,6 +118,7 @@ fn add_coefficients(
     let first = table_number(way, 0);
     let later = table_number(way, 1);
     let mut place = u8::from(way.intra);
+    let mut squares = counts.squares;
     for pair in pairs {
         let at = place + pair.run;
         let weight = weight_in_scan(weights, rescaling.alternate, at);
@@ -125,7 +128,16 @@ fn add_coefficients(
             at,
         };
         let table = table_at(first, later, at);
-        add_coefficient(counts, targets, table, rescaling, coefficient, ladder);
+        add_coefficient(
+            counts,
+            &mut squares,
+            targets,
+            table,
+            &rescaling,
+            coefficient,
+            ladder,
+        );
         place = at + 1;
     }
+    counts.squares = squares;
 }

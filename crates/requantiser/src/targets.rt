@@ -14,7 +14,7 @@ pub struct Targets {
     /// The quantiser_scale_codes that it is mapped to.
     pub codes: [u8; VERSIONS_AT_ONCE],
     /// Their quantiser_scales.
-    pub scales: [u16; VERSIONS_AT_ONCE],
+    pub scales: [u8; VERSIONS_AT_ONCE],
     ghost are_codes: { (k : ℕ) → k < 8 → IsCode (slice_index codes k) },
     ghost range: { (k : ℕ) → k < 8 → (1 ≤ slice_index scales k) × (slice_index scales k ≤ 112) },
 }
@@ -162,6 +162,6 @@ fn target_of(q_scale_type: bool, code: u8) -> Target
 {
     Target {
         code,
-        scale: scale(q_scale_type, code),
+        scale: scale(q_scale_type, code) as u8,
     }
 }

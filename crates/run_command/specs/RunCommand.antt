@@ -91,6 +91,7 @@ run_task job out certificate = record {
   calls_for = RunCallsFor job out certificate;
   may_refuse = RunMayRefuse;
   tells_work = TellsRun job out certificate;
+  fits_none = λ told slots. ⊥;
   is_done = RunDone job out certificate;
   leaves = RunLeaves job out certificate;
   reads = λ told name limit. IsJobFile told job (files_of_run job out certificate) name limit;

@@ -66,18 +66,18 @@ abbrev head-of : (first : TimedPicture) (pictures : List TimedPicture) → Timed
 head-of first [] = first
 head-of first (p ∷ ps) = p
 
-begins : (es coarser : List ℕ) (placed : List PlacedPacket) (weight start : ℕ) (earliest : ℤ) (state : Option SeqState) (kept : List (ℕ × ℕ)) (pictures : List TimedPicture) (units : List UnitSource)
+begins : (es coarser : List ℕ) (placed : List PlacedPacket) (weight drift start : ℕ) (earliest : ℤ) (state : Option SeqState) (kept : List (ℕ × ℕ)) (pictures : List TimedPicture) (units : List UnitSource)
     (versions : List (List UnitVersion)) (choice : List ℕ) (more : List CodedUnit) (packets : List PesUnit) (first : TimedPicture) (later : List TimedPicture) → pictures ≡ first ∷ later
     → AreInOrder es placed [] kept pictures → AreUnitSources start earliest kept pictures units → AreVideoVersions es coarser state units versions
-    → AllZip HasVersion (unit_rows weight units versions ++ more) choice → AreReadAs (sent_units units versions choice) (bytes_of_packets packets) → Begins pictures units packets first
-begins es coarser placed weight start earliest state kept [] units versions choice more packets first later split in_order are are_versions fits read =
+    → AllZip HasVersion (unit_rows weight drift units versions ++ more) choice → AreReadAs (sent_units units versions choice) (bytes_of_packets packets) → Begins pictures units packets first
+begins es coarser placed weight drift start earliest state kept [] units versions choice more packets first later split in_order are are_versions fits read =
     absurd (let e = ap (length {A = TimedPicture}) split in omega (arith, e))
-begins es coarser placed weight start earliest state [] (p ∷ ps) units versions choice more packets first later split in_order are are_versions fits read = absurd in_order
-begins es coarser placed weight start earliest state (k ∷ ks) (p ∷ ps) [] versions choice more packets first later split in_order are are_versions fits read = absurd are
-begins es coarser placed weight start earliest state (k ∷ ks) (p ∷ ps) (u ∷ us) [] choice more packets first later split in_order are are_versions fits read = absurd are_versions
-begins es coarser placed weight start earliest state (k ∷ ks) (p ∷ ps) (u ∷ us) (v ∷ vs) [] more packets first later split in_order are are_versions fits read = absurd fits
-begins es coarser placed weight start earliest state (k ∷ ks) (p ∷ ps) (u ∷ us) (v ∷ vs) (n ∷ choice) more [] first later split in_order are are_versions fits read = absurd read
-begins es coarser placed weight start earliest state (k ∷ ks) (p ∷ ps) (u ∷ us) (v ∷ vs) (n ∷ choice) more (o ∷ os) first later split in_order are are_versions fits read =
+begins es coarser placed weight drift start earliest state [] (p ∷ ps) units versions choice more packets first later split in_order are are_versions fits read = absurd in_order
+begins es coarser placed weight drift start earliest state (k ∷ ks) (p ∷ ps) [] versions choice more packets first later split in_order are are_versions fits read = absurd are
+begins es coarser placed weight drift start earliest state (k ∷ ks) (p ∷ ps) (u ∷ us) [] choice more packets first later split in_order are are_versions fits read = absurd are_versions
+begins es coarser placed weight drift start earliest state (k ∷ ks) (p ∷ ps) (u ∷ us) (v ∷ vs) [] more packets first later split in_order are are_versions fits read = absurd fits
+begins es coarser placed weight drift start earliest state (k ∷ ks) (p ∷ ps) (u ∷ us) (v ∷ vs) (n ∷ choice) more [] first later split in_order are are_versions fits read = absurd read
+begins es coarser placed weight drift start earliest state (k ∷ ks) (p ∷ ps) (u ∷ us) (v ∷ vs) (n ∷ choice) more (o ∷ os) first later split in_order are are_versions fits read =
     let same : p ≡ first = ap (head-of p) split in
     let time = stated-time (decoding_time p.times) p.stated p.ticks in_order.0.timed in
     record {
@@ -128,8 +128,8 @@ module _ (laws : SpellingLaws) (one : OneDemuxed) (wherever : WhereverItStands) 
 
   carries-one : (n : ℕ) (job : ProgramJob) (content : List ℕ) (p : Program) (coarser : List ℕ) (v : List (List UnitVersion)) (choice : List ℕ) (more : List CodedUnit) (contents : List (List ℕ))
       (programs : List Program) → IsNextProgram slot start contents programs job content p → AreVideoVersions p.video coarser None p.units v
-      → AllZip HasVersion (unit_rows job.weight p.units v ++ more) choice → ParsesToProgram bytes content job (with_output_pids n job.number p.map) (sent_units p.units v choice)
-      → LeadsToMap bytes job.number (map_pid n) → IsClock stream slot (video_pid n) p.base → CarriesTimes bytes stream slot n job.number (program_row job.weight p v) choice
+      → AllZip HasVersion (unit_rows job.weight job.drift p.units v ++ more) choice → ParsesToProgram bytes content job (with_output_pids n job.number p.map) (sent_units p.units v choice)
+      → LeadsToMap bytes job.number (map_pid n) → IsClock stream slot (video_pid n) p.base → CarriesTimes bytes stream slot n job.number (program_row job.weight job.drift p v) choice
   carries-one n job content p coarser v choice more contents programs next versions fits read leads clock =
       let of = next.holds in
       let es : List ℕ = video_bytes of.demuxed in
@@ -140,13 +140,13 @@ module _ (laws : SpellingLaws) (one : OneDemuxed) (wherever : WhereverItStands) 
       let in_order : AreInOrder es placed [] is.kept is.pictures =
       kept-in-order es placed is.has_pictures.units.cuts is.kept is.pictures is.has_pictures.at_end is.has_pictures.kept_are in
       let of_video : AreVideoVersions es coarser None p.units v = subst (λ (bytes : List ℕ). AreVideoVersions bytes coarser None p.units v) video versions in
-      let begin = begins es coarser placed job.weight start is.earliest None is.kept is.pictures p.units v choice more read.demuxed.video is.first is.has_pictures.later
+      let begin = begins es coarser placed job.weight job.drift start is.earliest None is.kept is.pictures p.units v choice more read.demuxed.video is.first is.has_pictures.later
       is.has_pictures.first_is in_order is.units_are of_video fits read.video in
       let early_units : All (λ (unit : UnitSource). unit.due < 2576980377600) p.units =
       All-weaker (λ (unit : UnitSource). unit.due ≤ last_time slot) (λ (unit : UnitSource). unit.due < 2576980377600)
       (λ unit within. early-time slot unit.due short within) p.units next.within.units in
       let shown : AreDecoded p.base [] read.demuxed.video (all_outgoing is.pictures p.units) =
-      decoded laws es coarser placed job.weight start p.base is.earliest is.base_is [] [] (record { last = tt; all = refl; tells = tt }) tt is.kept is.pictures p.units v choice more read.demuxed.video
+      decoded laws es coarser placed job.weight job.drift start p.base is.earliest is.base_is [] [] (record { last = tt; all = refl; tells = tt }) tt is.kept is.pictures p.units v choice more read.demuxed.video
       in_order is.units_are of_video fits early_units read.video in
       let audio : AllTaken read.demuxed.audios of.demuxed.audios =
       subst (λ (d : Demuxed). AllTaken read.demuxed.audios d.audios) source (all-taken read.demuxed.audios read.source.audios read.audio) in
@@ -173,9 +173,9 @@ module _ (laws : SpellingLaws) (one : OneDemuxed) (wherever : WhereverItStands) 
         first = outgoing is.first begin.unit;
         later = begin.later;
         decoded = subst (AreDecoded p.base [] read.demuxed.video) begin.out shown;
-        dues = dues-are es coarser job.weight start is.earliest None is.kept is.pictures p.units v is.units_are of_video
+        dues = dues-are es coarser job.weight job.drift start is.earliest None is.kept is.pictures p.units v is.units_are of_video
             ∙ ap (map (λ (picture : DecodedPicture). picture.at)) begin.out;
-        sizes = sizes-are es coarser job.weight None p.units v choice more read.demuxed.video of_video fits read.video;
+        sizes = sizes-are es coarser job.weight job.drift None p.units v choice more read.demuxed.video of_video fits read.video;
         buffer = is.vbv_is;
         begin = begin.time;
         begin_is = begin.stands;
@@ -226,18 +226,18 @@ module _ (laws : SpellingLaws) (one : OneDemuxed) (wherever : WhereverItStands) 
   carries-each n (j ∷ js) (p ∷ ps) (v ∷ vs) choice read done (c ∷ cs) next are_versions fits back leads clock zero number row there found =
       let later : List CodedUnit = flat_map (λ (r : ProgramRow). r.units) (program_rows js ps vs) in
       let at : n ≡ n + 0 = omega arith in
-      let here : CarriesTimes bytes stream slot n j.number (program_row j.weight p v) choice =
+      let here : CarriesTimes bytes stream slot n j.number (program_row j.weight j.drift p v) choice =
       carries-one n j c p j.coarser.items v choice later read done next.0 are_versions.0 fits back.0
       (subst (λ (k : ℕ). LeadsToMap bytes j.number (map_pid k)) (sym at) (leads 0 j.number refl))
       (subst (λ (k : ℕ). IsClock stream slot (video_pid k) p.base) (sym at) (clock 0 p refl)) in
-      subst (λ (r : ProgramRow). CarriesTimes bytes stream slot (n + 0) number r choice) (same_Some (program_row j.weight p v) row found)
-      (subst (λ (k : ℕ). CarriesTimes bytes stream slot (n + 0) k (program_row j.weight p v) choice) (same_Some j.number number there)
-      (subst (λ (k : ℕ). CarriesTimes bytes stream slot k j.number (program_row j.weight p v) choice) at here))
+      subst (λ (r : ProgramRow). CarriesTimes bytes stream slot (n + 0) number r choice) (same_Some (program_row j.weight j.drift p v) row found)
+      (subst (λ (k : ℕ). CarriesTimes bytes stream slot (n + 0) k (program_row j.weight j.drift p v) choice) (same_Some j.number number there)
+      (subst (λ (k : ℕ). CarriesTimes bytes stream slot k j.number (program_row j.weight j.drift p v) choice) at here))
   carries-each n (j ∷ js) (p ∷ ps) (v ∷ vs) choice read done (c ∷ cs) next are_versions fits back leads clock (suc place) number row there found =
       let later : List CodedUnit = flat_map (λ (r : ProgramRow). r.units) (program_rows js ps vs) in
-      let own : List CodedUnit = unit_rows j.weight p.units v in
+      let own : List CodedUnit = unit_rows j.weight j.drift p.units v in
       let before : List CodedUnit = flat_map (λ (r : ProgramRow). r.units) (take place (program_rows js ps vs)) in
-      let many : length own ≡ length p.units = unit_rows-count j.weight p.video j.coarser.items None p.units v are_versions.0 in
+      let many : length own ≡ length p.units = unit_rows-count j.weight j.drift p.video j.coarser.items None p.units v are_versions.0 in
       let behind : AllZip HasVersion later (drop (length p.units) choice) = subst (λ (k : ℕ). AllZip HasVersion later (drop k choice)) many (fits-behind own later choice fits) in
       let at : (k : ℕ) → n + 1 + k ≡ n + suc k = λ k. omega arith in
       let part : drop (length before) (drop (length p.units) choice) ≡ drop (length (own ++ before)) choice =

@@ -24,6 +24,7 @@ use Rattle.version_table.specs.declared.table.Version.{Version}
 use Rattle.version_table.specs.Choice.{HasVersion, version_at}
 use Rattle.layer_laws.specs.VideoPackets.{IsReadAsVideo}
 use Rattle.ts_demux.specs.declared.demuxed.PesUnit.{PesUnit}
+use Rattle.program_reader.specs.Carry.{unit_weight}
 use Rattle.program_reader.specs.declared.pes_packets.PlacedPacket.{PlacedPacket}
 use Rattle.program_reader.specs.declared.program.UnitSource.{UnitSource}
 use Rattle.program_reader.specs.declared.timed_picture.Role.{Role}
@@ -162,11 +163,11 @@ when-shown start base due earliest stated ticks (b ∷ bs) (e ∷ es) None is ea
 
 -- ---- all pictures
 
-module _ (laws : SpellingLaws) (es coarser : List ℕ) (placed : List PlacedPacket) (weight start base : ℕ) (earliest : ℤ) (based : IsBase start earliest base) where
+module _ (laws : SpellingLaws) (es coarser : List ℕ) (placed : List PlacedPacket) (weight drift start base : ℕ) (earliest : ℤ) (based : IsBase start earliest base) where
   pub decoded : (earlier : List TimedPicture) (sent : List DecodedPicture) → AreLike start earliest earlier sent → MayPrecede (state_behind (nearest earlier)) → (kept : List (ℕ × ℕ))
       (pictures : List TimedPicture) (units : List UnitSource) (versions : List (List UnitVersion)) (choice : List ℕ) (more : List CodedUnit) (packets : List PesUnit)
       → AreInOrder es placed earlier kept pictures → AreUnitSources start earliest kept pictures units → AreVideoVersions es coarser (state_behind (nearest earlier)) units versions
-      → AllZip HasVersion (unit_rows weight units versions ++ more) choice → All (λ (unit : UnitSource). unit.due < 2576980377600) units
+      → AllZip HasVersion (unit_rows weight drift units versions ++ more) choice → All (λ (unit : UnitSource). unit.due < 2576980377600) units
       → AreReadAs (sent_units units versions choice) (bytes_of_packets packets) → AreDecoded base sent packets (all_outgoing pictures units)
   decoded earlier sent like may [] [] [] versions choice more [] in_order are are_versions fits early read = tt
   decoded earlier sent like may [] [] [] versions choice more (o ∷ os) in_order are are_versions fits early read = absurd read
@@ -183,7 +184,7 @@ module _ (laws : SpellingLaws) (es coarser : List ℕ) (placed : List PlacedPack
       let unit : List ℕ = bytes_of_unit es u in
       let bytes : unit_bytes es k ≡ unit = ap₂ (λ (from to : ℕ). unit_bytes es (from, to)) (sym are.0) (sym are.1) in
       let own : IsPictureOf state unit next.coded.picture = subst (λ (x : List ℕ). IsPictureOf state x next.coded.picture) bytes next.coded.whole in
-      let within : n < length v = omega (arith, fits.0, length-map v (row_version weight u)) in
+      let within : n < length v = omega (arith, fits.0, length-map v (row_version (unit_weight weight drift u us) u)) in
       let alike : SpellsAlike state here.picture (chosen_bytes v n) = chosen-alike laws state unit coarser v n may here within in
       let same : here.picture ≡ next.coded.picture = one-picture state unit here.picture next.coded.picture here.whole own in
       let left : leaves.picture ≡ next.coded.picture = one-picture state unit leaves.picture next.coded.picture leaves.whole own in
@@ -205,22 +206,22 @@ module _ (laws : SpellingLaws) (es coarser : List ℕ) (placed : List PlacedPack
           when = subst (λ (t : Option ℕ). IsDecodedWhen base sent t u.due) (sym time) on_time;
         },
         decoded (p ∷ earlier) (outgoing p u ∷ sent)
-            (record { last = (refl, refl, refl, are.3); all = ap (λ (cs : List CodedPicture). coded_out p ∷ cs) like.all; tells = next.reference }) may_next ks ps us vs choice more os in_order.1 are.4
+            (record { last = (refl, refl, refl, are.3); all = ap (λ (cs : List CodedPicture). coded_out p ∷ cs) like.all; tells = next.reference }) may_next ks ps us vs choice more os in_order.1 are.6
             (subst (λ (s : SeqState). AreVideoVersions es coarser (Some s) us vs) behind rest) fits.1 (All-tail (λ (x : UnitSource). x.due < 2576980377600) u us early) read.1,
       )
 
 -- the due times of the rows are those of the pictures
-pub dues-are : (es coarser : List ℕ) (weight start : ℕ) (earliest : ℤ) (state : Option SeqState) (kept : List (ℕ × ℕ)) (pictures : List TimedPicture) (units : List UnitSource)
+pub dues-are : (es coarser : List ℕ) (weight drift start : ℕ) (earliest : ℤ) (state : Option SeqState) (kept : List (ℕ × ℕ)) (pictures : List TimedPicture) (units : List UnitSource)
     (versions : List (List UnitVersion)) → AreUnitSources start earliest kept pictures units → AreVideoVersions es coarser state units versions
-    → map (λ (unit : CodedUnit). unit.due) (unit_rows weight units versions) ≡ map (λ (picture : DecodedPicture). picture.at) (all_outgoing pictures units)
-dues-are es coarser weight start earliest state [] [] [] versions are are_versions = refl
-dues-are es coarser weight start earliest state [] [] (u ∷ us) versions are are_versions = absurd are
-dues-are es coarser weight start earliest state [] (p ∷ ps) units versions are are_versions = absurd are
-dues-are es coarser weight start earliest state (k ∷ ks) [] units versions are are_versions = absurd are
-dues-are es coarser weight start earliest state (k ∷ ks) (p ∷ ps) [] versions are are_versions = absurd are
-dues-are es coarser weight start earliest state (k ∷ ks) (p ∷ ps) (u ∷ us) [] are are_versions = absurd are_versions
-dues-are es coarser weight start earliest state (k ∷ ks) (p ∷ ps) (u ∷ us) (v ∷ vs) are (after, leaves, here, rest) =
-    ap (λ (dues : List ℕ). u.due ∷ dues) (dues-are es coarser weight start earliest (Some after) ks ps us vs are.4 rest)
+    → map (λ (unit : CodedUnit). unit.due) (unit_rows weight drift units versions) ≡ map (λ (picture : DecodedPicture). picture.at) (all_outgoing pictures units)
+dues-are es coarser weight drift start earliest state [] [] [] versions are are_versions = refl
+dues-are es coarser weight drift start earliest state [] [] (u ∷ us) versions are are_versions = absurd are
+dues-are es coarser weight drift start earliest state [] (p ∷ ps) units versions are are_versions = absurd are
+dues-are es coarser weight drift start earliest state (k ∷ ks) [] units versions are are_versions = absurd are
+dues-are es coarser weight drift start earliest state (k ∷ ks) (p ∷ ps) [] versions are are_versions = absurd are
+dues-are es coarser weight drift start earliest state (k ∷ ks) (p ∷ ps) (u ∷ us) [] are are_versions = absurd are_versions
+dues-are es coarser weight drift start earliest state (k ∷ ks) (p ∷ ps) (u ∷ us) (v ∷ vs) are (after, leaves, here, rest) =
+    ap (λ (dues : List ℕ). u.due ∷ dues) (dues-are es coarser weight drift start earliest (Some after) ks ps us vs are.6 rest)
 
 -- ---- sizes
 
@@ -245,17 +246,17 @@ chosen-size weight u v n within =
     ap (λ (version : Version). version.bytes) row ∙ ap (λ (bytes : List ℕ). length (written_pes_header u.times) + length bytes) (sym chosen)
 
 -- the versions that a choice names are as long as the PES packets
-pub sizes-are : (es coarser : List ℕ) (weight : ℕ) (state : Option SeqState) (units : List UnitSource) (versions : List (List UnitVersion)) (choice : List ℕ) (more : List CodedUnit)
-    (packets : List PesUnit) → AreVideoVersions es coarser state units versions → AllZip HasVersion (unit_rows weight units versions ++ more) choice
+pub sizes-are : (es coarser : List ℕ) (weight drift : ℕ) (state : Option SeqState) (units : List UnitSource) (versions : List (List UnitVersion)) (choice : List ℕ) (more : List CodedUnit)
+    (packets : List PesUnit) → AreVideoVersions es coarser state units versions → AllZip HasVersion (unit_rows weight drift units versions ++ more) choice
     → AreReadAs (sent_units units versions choice) (bytes_of_packets packets)
-    → map (λ (chosen : CodedUnit × ℕ). (version_at chosen.0 chosen.1).bytes) (zip (unit_rows weight units versions) choice) ≡ map (λ (packet : PesUnit). length packet.bytes) packets
-sizes-are es coarser weight state [] [] choice more [] are fits read = refl
-sizes-are es coarser weight state [] [] choice more (o ∷ os) are fits read = absurd read
-sizes-are es coarser weight state [] (v ∷ vs) choice more packets are fits read = absurd are
-sizes-are es coarser weight state (u ∷ us) [] choice more packets are fits read = absurd are
-sizes-are es coarser weight state (u ∷ us) (v ∷ vs) [] more packets are fits read = absurd fits
-sizes-are es coarser weight state (u ∷ us) (v ∷ vs) (n ∷ choice) more [] are fits read = absurd read
-sizes-are es coarser weight state (u ∷ us) (v ∷ vs) (n ∷ choice) more (o ∷ os) (after, leaves, here, rest) fits read =
-    let within : n < length v = omega (arith, fits.0, length-map v (row_version weight u)) in
-    ap₂ (λ (size : ℕ) (sizes : List ℕ). size ∷ sizes) (chosen-size weight u v n within ∙ sym (whole-length u.times (chosen_bytes v n) o.bytes read.0))
-    (sizes-are es coarser weight (Some after) us vs choice more os rest fits.1 read.1)
+    → map (λ (chosen : CodedUnit × ℕ). (version_at chosen.0 chosen.1).bytes) (zip (unit_rows weight drift units versions) choice) ≡ map (λ (packet : PesUnit). length packet.bytes) packets
+sizes-are es coarser weight drift state [] [] choice more [] are fits read = refl
+sizes-are es coarser weight drift state [] [] choice more (o ∷ os) are fits read = absurd read
+sizes-are es coarser weight drift state [] (v ∷ vs) choice more packets are fits read = absurd are
+sizes-are es coarser weight drift state (u ∷ us) [] choice more packets are fits read = absurd are
+sizes-are es coarser weight drift state (u ∷ us) (v ∷ vs) [] more packets are fits read = absurd fits
+sizes-are es coarser weight drift state (u ∷ us) (v ∷ vs) (n ∷ choice) more [] are fits read = absurd read
+sizes-are es coarser weight drift state (u ∷ us) (v ∷ vs) (n ∷ choice) more (o ∷ os) (after, leaves, here, rest) fits read =
+    let within : n < length v = omega (arith, fits.0, length-map v (row_version (unit_weight weight drift u us) u)) in
+    ap₂ (λ (size : ℕ) (sizes : List ℕ). size ∷ sizes) (chosen-size (unit_weight weight drift u us) u v n within ∙ sym (whole-length u.times (chosen_bytes v n) o.bytes read.0))
+    (sizes-are es coarser weight drift (Some after) us vs choice more os rest fits.1 read.1)

@@ -125,7 +125,7 @@ module _ (file : List ℕ) (n : ℕ) (bytes : List ℕ) (of_it : ℕ) (bytes_are
   pieces_here = pieces_more file of_it 0 n (omega arith) on_it ∙ ap (λ (b : List ℕ). pid_pieces file of_it 0 n ++ record { at = 188 * n; bytes = b } ∷ []) (sym bytes_are)
 
   -- no fault, but for those of its own PID
-  no_fault : (pids : List ℕ) → sync_byte bytes ≡ 0x47 → ((found : PidFault) → is_among pids of_it ≡ true → HasPidFault file of_it 0 n found → ⊥) →
+  pub no_fault : (pids : List ℕ) → sync_byte bytes ≡ 0x47 → ((found : PidFault) → is_among pids of_it ≡ true → HasPidFault file of_it 0 n found → ⊥) →
       (fault : DemuxFault) → IsStreamFault file pids n fault → ⊥
   no_fault pids sync sound fault (inl none) = none.0.no_sync (subst (λ (b : List ℕ). sync_byte b ≡ 0x47) bytes_are sync)
   no_fault pids sync sound fault (inr has) =

@@ -1,5 +1,6 @@
 pub mod Passing
 pub mod PassSteps
+pub mod PlaceSteps
 pub mod MapSteps
 pub mod PayloadLemmas
 mod PidTests
@@ -9,6 +10,7 @@ pub mod SectionLemmas
 pub mod TableLemmas
 pub mod TableSteps
 pub mod WalkSteps
+mod KnownPid
 pub mod CarrySteps
 pub mod CarriedSteps
 pub mod DistinctPids

@@ -55,7 +55,8 @@ use Rattle.ts_demux.specs.declared.demux_fault.DemuxFault.TheVariants as faults
 use Rattle.ts_demux.specs.declared.demuxed.Demuxed.{Demuxed}
 use Rattle.ts_demux.specs.Faults.{of_packet, of_pid, of_section}
 use Rattle.ts_demux.specs.Streams.{video_of, without_video, audios_of, others_of, is_among}
-use Rattle.ts_demux.specs.Tables.{piece, HasPidFault, refuse, StopsAt, no_sync, pat_packet, pmt_packet, pat_section, pmt_section, map_section, IsTablesFault, HasMap}
+use Rattle.ts_demux.specs.declared.placed_map.PlacedMap.{PlacedMap}
+use Rattle.ts_demux.specs.Tables.{piece, HasPidFault, refuse, StopsAt, no_sync, pat_packet, pmt_packet, pat_section, pmt_section, map_section, IsTablesFault, IsPlacedMap, HasMap}
 use Rattle.ts_demux.specs.Demux.{most_audios, HasCarriedMap, IsStreamFault, IsFirstStreamFault, pes_packets_on, IsDemuxed, IsDemuxRefused, short_file, tables, no_video, audios, long_map, streams}
 use Rattle.ts_demux.specs.Private.StreamWalk.{AreSoundBefore}
 use Rattle.ts_demux.proofs.GatherSteps.{fault_within, sound_more, sound_all}
@@ -222,12 +223,12 @@ module _ (file : List ℕ) (program : ℕ) (drop : List ℕ) where
       } in
       by_map carried others video rest has_it refl
 
-  by_tables : PACKET_BYTES ≤ length file → (result : Result ProgramMap DemuxFault) → MatchResult result (HasMap file program) (IsTablesFault file program) → Answer
-  by_tables long (Ok whole) has = by_video whole long has (video_of whole.streams.items) refl
+  by_tables : PACKET_BYTES ≤ length file → (result : Result PlacedMap DemuxFault) → MatchResult result (IsPlacedMap file program) (IsTablesFault file program) → Answer
+  by_tables long (Ok placed) has = by_video placed.map long has.map_is (video_of placed.map.streams.items) refl
   by_tables long (Err fault) is = inr (fault, tables_told file program fault (why_not file program fault is), tables long is)
 
   -- from what the reading of the tables answers
-  pub some_answer : (result : Result ProgramMap DemuxFault) → MatchResult result (HasMap file program) (IsTablesFault file program) → Answer
+  pub some_answer : (result : Result PlacedMap DemuxFault) → MatchResult result (IsPlacedMap file program) (IsTablesFault file program) → Answer
   some_answer result is = by_length (nat_le PACKET_BYTES (length file)) refl
     where
       by_length : (long : Bool) → nat_le PACKET_BYTES (length file) ≡ long → Answer

@@ -6,6 +6,7 @@ pub mod Tables
 pub mod Demux
 pub mod Pass
 pub mod CarriedPackets
+pub mod PidPlaces
 pub mod SectionReader
 pub mod TableWalk
 pub mod Private

@@ -9,7 +9,7 @@ use Rattle.ts_demux.specs.declared.section_reader.SectionReader.{SectionReader}
 use Rattle.ts_demux.specs.declared.table_walk.Known.{Known}
 use Rattle.ts_demux.specs.declared.table_walk.Known.TheVariants.{Nothing, OtherPrograms, MapOn}
 use Rattle.ts_demux.specs.declared.table_walk.TableWalk.{TableWalk}
-use Rattle.ts_demux.specs.Tables.{pat_pid, IsBefore, IsSection, Names, TakesPat, HasPat, IsPatSection, Stop, refuse, take, StopsAt, StopsFirst}
+use Rattle.ts_demux.specs.Tables.{pat_pid, IsBefore, IsSection, Names, TakesPat, HasPat, IsPatSection, IsMapPid, Stop, refuse, take, StopsAt, StopsFirst}
 use Rattle.ts_demux.specs.SectionReader.{Waits}
 
 -- nothing ends the reading of the tables before a place
@@ -70,3 +70,21 @@ abbrev pub missing_of : Known → DemuxFault
 missing_of Nothing = NoPat 0
 missing_of OtherPrograms = NoProgram 0
 missing_of (MapOn pid from) = NoPmt 0
+
+-- the PID of the map, once it is known
+abbrev pub map_pid_of : Known → Option ℕ
+map_pid_of Nothing = None
+map_pid_of OtherPrograms = None
+map_pid_of (MapOn pid from) = Some pid
+
+-- the PID of the map is known
+abbrev pub IsPidKnown : List ℕ → ℕ → Known → Type 0
+IsPidKnown file program Nothing = ⊥
+IsPidKnown file program OtherPrograms = ⊥
+IsPidKnown file program (MapOn pid from) = IsMapPid file program pid
+
+-- where a packet gives the map its PID is known
+abbrev pub KnowsOnMap : List ℕ → ℕ → Result (Option ProgramMap) DemuxFault → Known → Type 0
+KnowsOnMap file program (Ok None) known = Unit {0}
+KnowsOnMap file program (Ok (Some map)) known = IsPidKnown file program known
+KnowsOnMap file program (Err fault) known = Unit {0}

@@ -16,6 +16,7 @@ use Rattle.psi_tables.specs.Pat.{IsPat, pat_map_pid}
 use Rattle.psi_tables.specs.PmtOf.{pmt_of}
 use Rattle.ts_demux.specs.declared.demux_fault.DemuxFault.{DemuxFault}
 use Rattle.ts_demux.specs.declared.demux_fault.DemuxFault.TheVariants.{Sync, NoPat, NoProgram, NoPmt}
+use Rattle.ts_demux.specs.declared.placed_map.PlacedMap.{PlacedMap}
 use Rattle.ts_demux.specs.Faults.{of_pid, of_section}
 
 -- ---- packets and their sections
@@ -170,3 +171,16 @@ IsTablesFault file program fault = StopsFirst file program (refuse fault)
 -- the tables of the program are read, and its map is this one
 abbrev pub HasMap : List ℕ → ℕ → ProgramMap → Type 0
 HasMap file program map = StopsFirst file program (take map)
+
+-- ---- the PID of the map
+
+-- the map of the program is on this PID: the PAT section that is taken says it
+pub record IsMapPid (file : List ℕ) (program pid : ℕ) : Type 0 where
+  pub packet : ℕ
+  pub index : ℕ
+  pub takes : TakesPat file program packet index pid
+
+-- The tables of the program are read, and its map is this one, on this PID.
+pub record IsPlacedMap (file : List ℕ) (program : ℕ) (placed : PlacedMap) : Type 0 where
+  pub map_is : HasMap file program placed.map
+  pub pid_is : IsMapPid file program placed.pid

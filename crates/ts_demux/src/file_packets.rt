@@ -6,7 +6,7 @@ ghost use Rattle.ts_packets.specs.TransportStream.{piece_at, piece_count};
 
 use stream_constants::packets::PACKET_BYTES;
 
-/// The bytes of the n-th packet of a file.
+/// The bytes of the n-th packet of a file, from 0, or none where it has no more whole packets. Takes no memory.
 pub fn packet_at(file: &[u8], n: usize) -> Option<&[u8; PACKET_BYTES]>
     ensures some { IfSome result (λ bytes. (n < piece_count file.now) × (bytes.now ≡ piece_at file.now n)) }
     ensures none { result ≡ None → piece_count file.now ≤ n }

@@ -9,7 +9,7 @@ ghost use Rattle.ts_demux.specs.CarriedPackets.{AreDistinct};
 ghost use Rattle.ts_demux.specs.Demux.{IsCarriedMap, IsDemuxed, IsDemuxRefused};
 ghost use Rattle.ts_demux.specs.PacketBuffer.{Passes, IsAtEnd};
 
-use crate::table_walk::read_map;
+use crate::placed_map::find_map;
 
 /// A file, a program and the PIDs that are to be dropped have one answer: what is taken out is one thing, the refusal is one
 /// fault, and never both stand; but for want of memory, which may be said of every file.
@@ -42,5 +42,5 @@ pub fn some_answer(file: &[u8], program: u16, drop: &[u16])
     ensures { ((demuxed : Demuxed) × IsDemuxed file.now program drop.now demuxed)
         ⊎ ((fault : DemuxFault) × (fault ≢ OutOfMemory) × IsDemuxRefused file.now program drop.now fault) }
 {
-    let _tables = read_map(file, program);
+    let _tables = find_map(file, program);
 }

@@ -4,6 +4,8 @@
 //! That is one answer alone: `laws::one_answer`.
 //! It reads a file as it reads any source: `PacketBuffer` gives the packets, `read_map` the program's map, `CarriedPackets` what the packets of some
 //! PIDs carry. Each is a step that is right for every file that can begin so, so that no file needs to be held whole.
+//! `find_map` gives the map of a program in a file with the PID whose sections say it.
+//! `places` gives the packets of one PID with their clock references and how much payload each brings, `PlaceReader` packet by packet.
 //! `Payloads` is a source over the joined payload of a PID in a file, and takes no memory.
 //! Stands on `shelf_io`, `ts_packets`, `psi_tables` and `pes_units`.
 #![tactic(auto)]
@@ -21,6 +23,8 @@ mod pass_fault;
 mod payload_walk;
 mod payloads;
 mod pes_gatherer;
+mod pid_places;
+mod placed_map;
 mod section_reader;
 mod stream_walk;
 mod table_walk;
@@ -29,8 +33,11 @@ pub use carried_packets::{CarriedPackets, CarriedPid, StreamPayload};
 pub use demux_fault::DemuxFault;
 pub use demux_program::demux;
 pub use demuxed::{AudioStream, Demuxed, PesUnit};
+pub use file_packets::packet_at;
 pub use map_pass::read_map;
 pub use packet_buffer::PacketBuffer;
 pub use pass_fault::PassFault;
 pub use payloads::Payloads;
+pub use pid_places::{Place, PlaceReader, places};
+pub use placed_map::{PlacedMap, find_map};
 pub use table_walk::TableWalk;

@@ -1,15 +1,14 @@
-ghost use Rattle.std.specs.Prelude.{◌≡◌, ℕ, ◌+◌, ◌*◌, ◌^◌, ◌<◌, true, Ok, MatchResult, length};
+ghost use Rattle.std.specs.Prelude.{◌≡◌, ℕ, ◌+◌, ◌*◌, ◌^◌, ◌<◌, true, Ok, length};
 ghost use Rattle.ts_packets.specs.Packet.{sync_byte};
 ghost use Rattle.stream_constants.specs.declared.packets.TheConstants.{PACKET_BYTES};
 ghost use Rattle.ts_packets.specs.TransportStream.{piece_at, piece_count, is_of_pid};
 ghost use Rattle.psi_tables.specs.Sections.{sections_of};
 ghost use Rattle.ts_demux.specs.declared.table_walk.Reading.TheVariants.{GoesOn};
-ghost use Rattle.ts_demux.specs.Tables.{HasMap, IsTablesFault};
-ghost use Rattle.ts_demux.specs.TableWalk.{StandsBefore, IsBetween, Ends, missing_of};
-ghost use Rattle.ts_demux.specs.Private.TableWalk.{IsInPat, IsInMap, IsOnMapPid, Reads, ReadsPat, ReadsMap, is_on_pat_pid, is_map_on};
+ghost use Rattle.ts_demux.specs.TableWalk.{StandsBefore, IsBetween, Ends, KnowsOnMap, map_pid_of, missing_of};
+ghost use Rattle.ts_demux.specs.Private.TableWalk.{IsInPat, IsInMap, IsOnMapPid, KnowsWhereRead, Reads, ReadsPat, ReadsMap, is_on_pat_pid, is_map_on};
 
 use crate::demux_fault::{DemuxFault, pid_refused, section_refused};
-use crate::file_packets::{packet_at, place_of};
+use crate::file_packets::place_of;
 use crate::section_reader::SectionReader;
 use psi_tables::{ProgramMap, Section, SectionFault, is_pat, read_pat, read_pmt};
 use stream_constants::packets::PACKET_BYTES;
@@ -99,8 +98,9 @@ impl TableWalk {
     ) -> Result<Option<ProgramMap>, DemuxFault>
         requires place { PACKET_BYTES * n < 2 ^ 64 }
         requires stands { StandsBefore n bytes.now self.old }
-        ensures { (file : List ℕ) → n < piece_count file → bytes.now ≡ piece_at file n → IsBetween file n self.old →
+        ensures ends { (file : List ℕ) → n < piece_count file → bytes.now ≡ piece_at file n → IsBetween file n self.old →
             Ends file self.old.program result (IsBetween file (n + 1) self.new × (self.new.program ≡ self.old.program)) }
+        ensures known { (file : List ℕ) → n < piece_count file → bytes.now ≡ piece_at file n → IsBetween file n self.old → KnowsOnMap file self.old.program result self.new.known }
     {
         let Ok(pid) = pid_of(bytes) else {
             return Err(DemuxFault::Sync { at: place_of(n) });
@@ -124,8 +124,9 @@ impl TableWalk {
         requires stands { StandsBefore n bytes.now self.old }
         requires sync { sync_byte bytes.now ≡ 0x47 }
         requires of_pid { (file : List ℕ) → bytes.now ≡ piece_at file n → is_of_pid file 0 n ≡ true }
-        ensures { (file : List ℕ) → n < piece_count file → bytes.now ≡ piece_at file n → IsBetween file n self.old →
+        ensures ends { (file : List ℕ) → n < piece_count file → bytes.now ≡ piece_at file n → IsBetween file n self.old →
             Ends file self.old.program result (IsBetween file (n + 1) self.new × (self.new.program ≡ self.old.program)) }
+        ensures known { (file : List ℕ) → n < piece_count file → bytes.now ≡ piece_at file n → IsBetween file n self.old → KnowsOnMap file self.old.program result self.new.known }
     {
         match self.pat.take(bytes) {
             Ok(()) => self.read_pat_sections(n),
@@ -136,8 +137,9 @@ impl TableWalk {
     /// Reads the sections of PID 0 that wait behind the n-th packet.
     fn read_pat_sections(&mut self, n: usize) -> Result<Option<ProgramMap>, DemuxFault>
         requires place { PACKET_BYTES * n < 2 ^ 64 }
-        ensures { (file : List ℕ) → IsInPat file n self.old →
+        ensures ends { (file : List ℕ) → IsInPat file n self.old →
             Ends file self.old.program result (IsBetween file (n + 1) self.new × (self.new.program ≡ self.old.program)) }
+        ensures known { (file : List ℕ) → IsInPat file n self.old → KnowsOnMap file self.old.program result self.new.known }
     {
         loop {
             match self.read_pat_section(n) {
@@ -159,8 +161,9 @@ impl TableWalk {
         requires stands { StandsBefore n bytes.now self.old }
         requires sync { sync_byte bytes.now ≡ 0x47 }
         requires of_pid { (file : List ℕ) → bytes.now ≡ piece_at file n → IsOnMapPid file n self.old.known }
-        ensures { (file : List ℕ) → n < piece_count file → bytes.now ≡ piece_at file n → IsBetween file n self.old →
+        ensures ends { (file : List ℕ) → n < piece_count file → bytes.now ≡ piece_at file n → IsBetween file n self.old →
             Ends file self.old.program result (IsBetween file (n + 1) self.new × (self.new.program ≡ self.old.program)) }
+        ensures known { (file : List ℕ) → n < piece_count file → bytes.now ≡ piece_at file n → IsBetween file n self.old → KnowsOnMap file self.old.program result self.new.known }
     {
         match self.map.take(bytes) {
             Ok(()) => self.read_map_sections(n),
@@ -171,8 +174,9 @@ impl TableWalk {
     /// Reads the sections of the PMT's PID that wait behind the n-th packet.
     fn read_map_sections(&mut self, n: usize) -> Result<Option<ProgramMap>, DemuxFault>
         requires place { PACKET_BYTES * n < 2 ^ 64 }
-        ensures { (file : List ℕ) → IsInMap file n self.old →
+        ensures ends { (file : List ℕ) → IsInMap file n self.old →
             Ends file self.old.program result (IsBetween file (n + 1) self.new × (self.new.program ≡ self.old.program)) }
+        ensures known { (file : List ℕ) → IsInMap file n self.old → KnowsOnMap file self.old.program result self.new.known }
     {
         loop {
             match self.read_map_section(n) {
@@ -189,6 +193,7 @@ impl TableWalk {
         requires place { PACKET_BYTES * n < 2 ^ 64 }
         ensures read { (file : List ℕ) → IsInPat file n self.old →
             Reads file self.old.program result (IsInPat file n self.new × (self.new.program ≡ self.old.program)) (IsBetween file (n + 1) self.new × (self.new.program ≡ self.old.program)) }
+        ensures known { (file : List ℕ) → IsInPat file n self.old → KnowsWhereRead file self.old.program result self.new.known }
         ensures fewer { result ≡ Ok GoesOn → length (sections_of self.new.pat.builder) < length (sections_of self.old.pat.builder) }
     {
         let Some(found) = self.pat.next() else {
@@ -214,6 +219,7 @@ impl TableWalk {
         requires place { PACKET_BYTES * n < 2 ^ 64 }
         ensures read { (file : List ℕ) → IsInMap file n self.old →
             Reads file self.old.program result (IsInMap file n self.new × (self.new.program ≡ self.old.program)) (IsBetween file (n + 1) self.new × (self.new.program ≡ self.old.program)) }
+        ensures known { (file : List ℕ) → IsInMap file n self.old → KnowsWhereRead file self.old.program result self.new.known }
         ensures fewer { result ≡ Ok GoesOn → length (sections_of self.new.map.builder) < length (sections_of self.old.map.builder) }
     {
         let Some(found) = self.map.next() else {
@@ -224,6 +230,17 @@ impl TableWalk {
             Err(fault) => return Err(section_refused(place_of(n), fault)),
         };
         read_program_map(&section, self.program, n)
+    }
+
+    /// The PID of the program's map, from the packet on whose section of PID 0 says it.
+    pub fn map_pid(&self) -> Option<u16>
+        ensures { result ≡ map_pid_of self.now.known }
+    {
+        match self.known {
+            Known::Nothing => None,
+            Known::OtherPrograms => None,
+            Known::MapOn { pid, from: _ } => Some(pid),
+        }
     }
 
     /// Why no PMT section was taken, at the file's end.
@@ -281,21 +298,4 @@ fn read_program_map(section: &Section, program: u16, n: usize) -> Result<Reading
         return Ok(Reading::GoesOn);
     }
     Ok(Reading::Map(map))
-}
-
-/// The map of a program: what the first current PMT section of the program's number says, on the PID that the first
-/// current PAT section that names it says. An error is the first refusal up to it.
-pub fn read_map(file: &[u8], program: u16) -> Result<ProgramMap, DemuxFault>
-    ensures { MatchResult result (HasMap file.now program) (IsTablesFault file.now program) }
-{
-    let mut walk = TableWalk::new(program);
-    let mut n = 0;
-    while let Some(bytes) = packet_at(file, n) {
-        match walk.take(n, bytes) {
-            Ok(None) => n += 1,
-            Ok(Some(map)) => return Ok(map),
-            Err(fault) => return Err(fault),
-        }
-    }
-    Err(walk.missing())
 }

@@ -143,7 +143,7 @@ source-spans start earliest es [] [] (s ∷ ss) are spans = absurd are
 source-spans start earliest es [] (p ∷ ps) sources are spans = absurd are
 source-spans start earliest es (u ∷ us) [] sources are spans = absurd are
 source-spans start earliest es (u ∷ us) (p ∷ ps) [] are spans = absurd are
-source-spans start earliest es (u ∷ us) (p ∷ ps) (s ∷ ss) (begins, ends, times, due, are) spans =
+source-spans start earliest es (u ∷ us) (p ∷ ps) (s ∷ ss) (begins, ends, times, due, kind, role, are) spans =
     All-cons (IsSpanOf es) s ss (subst (λ (span : ℕ × ℕ). IsSpan es span) (ap₂ (λ (a b : ℕ). (a, b)) (sym begins) (sym ends)) (All-head (IsSpan es) u us spans))
     (source-spans start earliest es us ps ss are (All-tail (IsSpan es) u us spans))
 
@@ -155,7 +155,7 @@ first-source start earliest [] [] picture later sources are is = absurd (let e :
 first-source start earliest [] (p ∷ ps) picture later sources are is = absurd are
 first-source start earliest (u ∷ us) [] picture later sources are is = absurd are
 first-source start earliest (u ∷ us) (p ∷ ps) picture later [] are is = absurd are
-first-source start earliest (u ∷ us) (p ∷ ps) picture later (s ∷ ss) (begins, ends, times, due, are) is = (u, us, s, ss, refl, refl, begins)
+first-source start earliest (u ∷ us) (p ∷ ps) picture later (s ∷ ss) (begins, ends, times, due, kind, role, are) is = (u, us, s, ss, refl, refl, begins)
 
 pub program-versions : (content : List ℕ) (number : ℕ) (dropped : List ℕ) (start : ℕ) (program : Program) (coarser : List ℕ) (versions : List (List UnitVersion)) → AreBytes program.video
     → IsProgramOfFile content number dropped start program → AreVideoVersions program.video coarser None program.units versions → AreWholeVersions None versions × BeginWithSequence versions

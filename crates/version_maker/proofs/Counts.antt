@@ -16,7 +16,7 @@ use Rattle.syntax_types.specs.declared.picture.SeqState.{SeqState}
 use Rattle.syntax_types.specs.declared.slice.Slice.{Slice}
 use Rattle.syntax_types.specs.declared.slice.SliceInfo.{SliceInfo}
 use Rattle.stream_constants.specs.declared.start_codes.TheConstants.{FIRST_SLICE}
-use Rattle.picture_grammar.specs.StartCode.{start_code_bits, start_code_prefix}
+use Rattle.picture_grammar.specs.StartCode.{start_code_bits}
 use Rattle.picture_grammar.specs.Written.{to_whole_bytes, written_macroblock, written_slice, written_slice_info}
 use Rattle.requantiser.specs.declared.version_state.VersionState.{VersionState}
 use Rattle.requantiser.specs.declared.tally.Tally.{Tally}

@@ -1,5 +1,5 @@
 -- A macroblock's outline is as long as its head in the version, and its motion and DC coefficients in the source.
-use Rattle.std.proofs.Common.{◌≡◌, ℕ, zero, suc, ◌+◌, Bool, true, false, Option, None, Some, List, [], ◌++◌, if◌then◌else◌, refl, ap, ap₂, ◌∙◌, length, get_or, length-append, arith}
+use Rattle.std.proofs.Common.{◌≡◌, ℕ, zero, suc, ◌+◌, Bool, true, false, Option, None, Some, List, [], ◌++◌, if◌then◌else◌, refl, ap, ap₂, ◌∙◌, subst, length, get_or, length-append, arith}
 use Rattle.std.specs.Prelude.{◌==◌, is_some, map, not}
 use Rattle.std.specs.List.{flat_map, range_with_len}
 use Rattle.std.specs.Option.{option_to_list}
@@ -10,7 +10,9 @@ use Rattle.syntax_types.specs.declared.macroblock.Kind.{Kind}
 use Rattle.syntax_types.specs.declared.macroblock.Macroblock.{Macroblock}
 use Rattle.syntax_types.specs.declared.picture.PicCoding.{PicCoding}
 use Rattle.picture_grammar.specs.Macroblock.{block_way, no_block}
-use Rattle.picture_grammar.specs.Written.{if_any, written_macroblock}
+use Rattle.picture_grammar.specs.Written.{if_any, written_increment, written_macroblock}
+use Rattle.prefix_codes.specs.declared.table_name.TableName.TheVariants.{Pattern}
+use Rattle.prefix_codes.specs.TableName.{code_for}
 use Rattle.macroblock_writer.specs.Parts.{HasDcAlone, dc_length, head_length, kind_length, motion_length, written_dc_block}
 use Rattle.macroblock_writer.proofs.Parts.{alone-length}
 use Rattle.requantiser.specs.declared.head.Head.{Head}
@@ -70,3 +72,12 @@ kinds-at coding source n p c b head are = by_flags (is_some head.code) (not (hea
     by_flags true false = are.code
     by_flags false true = omega (arith, are.pattern)
     by_flags false false = omega (arith, are.neither)
+
+-- the bits of a head without a code, by whether a pattern stands there
+pub stayed-length : (coding : PicCoding) (from : Macroblock) (pattern : ℕ) (stands : Bool) → not (pattern == 0) ≡ stands
+    → head_length coding from.skipped_before (record from.kind { quant = false; pattern = not (pattern == 0) }) None pattern
+    ≡ length (written_increment (from.skipped_before + 1)) + kind_length coding (record from.kind { quant = false; pattern = stands }) + length (if stands then code_for Pattern pattern else [])
+stayed-length coding from pattern stands is = subst
+    (λ (b : Bool). head_length coding from.skipped_before (record from.kind { quant = false; pattern = not (pattern == 0) }) None pattern
+    ≡ length (written_increment (from.skipped_before + 1)) + kind_length coding (record from.kind { quant = false; pattern = b }) + length (if b then code_for Pattern pattern else []))
+    is (omega (arith, code-length None))

@@ -15,6 +15,7 @@ mod sizes;
 mod slice_count;
 mod slice_read;
 mod slice_version;
+mod stayed_bits;
 mod unit_sizes;
 mod version;
 mod version_write;

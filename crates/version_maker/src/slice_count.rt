@@ -12,14 +12,15 @@ ghost use Rattle.requantiser.specs.VersionState.{IsSpelledMacroblock};
 ghost use Rattle.version_maker.specs.declared.slice_count.VersionCount.{VersionCount as CountOf};
 ghost use Rattle.syntax_types.specs.declared.macroblock.Kind.{Kind as KindOf};
 ghost use Rattle.syntax_types.specs.declared.picture.PicCoding.{PicCoding as CodingOf};
-ghost use Rattle.version_maker.specs.Private.Kinds.{AreKindBits};
+ghost use Rattle.version_maker.specs.Private.Kinds.{AreKindBits, AreStayedBits};
 ghost use Rattle.version_maker.specs.Private.Counts.{CanCount, IsCountedMacroblock, IsStartCount};
 
 use crate::kind_bits::{CODE_BITS, KindBits};
+use crate::stayed_bits::StayedBits;
 use macroblock_writer::{increment_bits, macroblock_bits, motion_and_dc_bits, pattern_bits};
 use requantiser::{
     Head, Outline, Tally, VERSIONS_AT_ONCE, VersionState, coded_head, is_emptied,
-    outline_macroblock,
+    outline_macroblock, stayed_head, stays,
 };
 use syntax_types::{Macroblock, PicCoding, SeqState, SliceInfo};
 
@@ -119,8 +120,12 @@ pub fn count_macroblock(
     requires each { (k : ℕ) (d : CountOf) (e : TallyOf) → k < count → CanCount seq.now coding.now from.now (slice_index_or tallies.now k e) (slice_index_or counts.old k d) }
     ensures { (k : ℕ) (d : CountOf) → k < count → IsCountedMacroblock seq.now coding.now inner from.now (slice_index_or counts.old k d) (slice_index_or counts.new k d) }
 {
+    if count == 0 {
+        return;
+    }
     let shared = motion_and_dc_bits(coding, from);
     let kinds = KindBits::of(coding, from.kind);
+    let stayed = StayedBits::of(kinds, from, shared);
     for k in 0..count {
         count_version(
             seq,
@@ -128,8 +133,9 @@ pub fn count_macroblock(
             inner,
             from,
             shared,
-            kinds,
-            tallies[k],
+            &kinds,
+            &stayed,
+            &tallies[k],
             lent,
             &mut counts[k],
         );
@@ -137,8 +143,44 @@ pub fn count_macroblock(
 }
 
 /// Counts what becomes of one more macroblock in a version, through one that is lent. Its motion and its DC coefficients are
-/// the same in all versions, in so many bits.
+/// the same in all versions, in so many bits, and so is its head where it stays as it is.
+#[inline]
 fn count_version(
+    seq: &SeqState,
+    coding: &PicCoding,
+    inner: bool,
+    from: &Macroblock,
+    shared: u32,
+    kinds: &KindBits,
+    stayed: &StayedBits,
+    tally: &Tally,
+    lent: &mut Macroblock,
+    count: &mut VersionCount,
+)
+    requires weights { HasWeights seq.now }
+    requires spelled { IsSpelledMacroblock coding.now from.now }
+    requires shared { shared ≡ motion_length coding.now from.now + dc_length coding.now from.now }
+    requires few { shared ≤ 2 ^ 15 }
+    requires kinds { AreKindBits coding.now from.now.kind kinds.now.neither kinds.now.pattern kinds.now.code kinds.now.both }
+    requires stayed { AreStayedBits coding.now from.now shared stayed.now.neither stayed.now.pattern }
+    requires can { CanCount seq.now coding.now from.now tally.now count.old }
+    ensures { IsCountedMacroblock seq.now coding.now inner from.now count.old count.new }
+{
+    if stays(tally, &count.state, from) {
+        let head = stayed_head(tally, from);
+        count.bits += u64::from(stayed.at(head.pattern) + tally.bits);
+        count.distortion += tally.distortion;
+        return;
+    }
+    count_changed(
+        seq, coding, inner, from, shared, *kinds, *tally, lent, count,
+    );
+}
+
+/// The same of a macroblock whose head changes, which is rare.
+#[cold]
+#[inline(never)]
+fn count_changed(
     seq: &SeqState,
     coding: &PicCoding,
     inner: bool,

@@ -4,6 +4,7 @@ use Rattle.bit_lists.specs.Payload.{Payload}
 use Rattle.pes_units.specs.PesPieces.{pes_pieces}
 use Rattle.program_reader.specs.declared.program.AudioPiece.{AudioPiece}
 use Rattle.program_reader.specs.declared.program.UnitSource.{UnitSource}
+use Rattle.program_reader.specs.declared.timed_picture.Role.TheVariants.{Frame}
 use Rattle.version_maker.specs.declared.version.UnitVersion.{UnitVersion}
 use Rattle.version_source.specs.Pieces.{audio_payload, pes_packet, video_items}
 
@@ -23,7 +24,7 @@ a_byte_more = refl
 
 -- a unit without times: nine bytes of header, then the version
 abbrev unit : UnitSource
-unit = record { begin = 0; end = 4; times = record { pts = None; dts = None }; due = 0 }
+unit = record { begin = 0; end = 4; times = record { pts = None; dts = None }; due = 0; kind = 1; role = Frame }
 
 header_first : pes_packet unit (0xB3 ∷ []) ≡ 0x00 ∷ 0x00 ∷ 0x01 ∷ 0xE0 ∷ 0x00 ∷ 0x00 ∷ 0x80 ∷ 0x00 ∷ 0x00 ∷ 0xB3 ∷ []
 header_first = refl

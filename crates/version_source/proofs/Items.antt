@@ -10,6 +10,7 @@ use Rattle.pes_units.specs.PesPieces.{packets_for, pes_pieces, piece_of}
 use Rattle.mux_writer.specs.declared.piece_source.Filled.{Filled}
 use Rattle.mux_writer.specs.Pieces.{IsFilledWith}
 use Rattle.program_reader.specs.declared.program.UnitSource.{UnitSource}
+use Rattle.program_reader.specs.declared.timed_picture.Role.TheVariants.{Frame}
 use Rattle.version_maker.specs.declared.version.UnitVersion.{UnitVersion}
 use Rattle.version_source.specs.Pieces.{pes_packet, video_items}
 use Rattle.version_source.specs.Versions.{AreVideoVersions, chosen_bytes}
@@ -93,7 +94,7 @@ held es coarser units choice number kept packet is there some within = record {
 
 -- what stands for a unit that isn't there
 abbrev pub no_unit : UnitSource
-no_unit = record { begin = 0; end = 0; times = record { pts = None; dts = None }; due = 0 }
+no_unit = record { begin = 0; end = 0; times = record { pts = None; dts = None }; due = 0; kind = 0; role = Frame }
 
 pub held-piece : (es coarser : List ℕ) (units : List UnitSource) (choice : List ℕ) (number : ℕ) (state : Option SeqState) (packet : List ℕ) (k : ℕ)
     → IsHeld es coarser units choice number state packet → number < length units → length units ≤ length choice → HasVersions es coarser units

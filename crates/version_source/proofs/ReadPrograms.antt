@@ -60,7 +60,8 @@ use Rattle.program_reader.specs.declared.program.UnitSource.{UnitSource}
 use Rattle.program_reader.specs.declared.timed_picture.TimedPicture.{TimedPicture}
 use Rattle.program_reader.specs.Audio.{AreAudioSources, ArePieces, HaveFrames, IsAudioSource, IsPiece, packet_size, piece_places, piece_size, placed_pieces, taken_of}
 use Rattle.program_reader.specs.Packets.{pes_payload_of, placed_from, taken}
-use Rattle.program_reader.specs.PictureTimes.{first_picture, is_first_picture_in, no_times, times_at, times_of_unit}
+use Rattle.es_units.specs.Pictures.{first_picture}
+use Rattle.program_reader.specs.PictureTimes.{is_first_picture_in, no_times, times_at, times_of_unit}
 use Rattle.program_reader.specs.Programs.{AreUnitSources, IsProgram, video_bytes, video_packets}
 use Rattle.picture_reader.specs.Picture.{IsPictureOf}
 use Rattle.program_reader.specs.Intervals.{nearest}
@@ -141,7 +142,7 @@ units-stand start earliest es packets earlier from [] [] (s ∷ ss) are fits in_
 units-stand start earliest es packets earlier from [] (p ∷ ps) sources are fits in_order = absurd are
 units-stand start earliest es packets earlier from (u ∷ us) [] sources are fits in_order = absurd are
 units-stand start earliest es packets earlier from (u ∷ us) (p ∷ ps) [] are fits in_order = absurd are
-units-stand start earliest es packets earlier from (unit ∷ units) (picture ∷ pictures) (source ∷ sources) (begins, ends, times, due, are) (after, order, inside, fits) (next, in_order) =
+units-stand start earliest es packets earlier from (unit ∷ units) (picture ∷ pictures) (source ∷ sources) (begins, ends, times, due, kind, role, are) (after, order, inside, fits) (next, in_order) =
     let said : CanBeSaid source.times = subst CanBeSaid (sym (times ∙ next.times_are)) (unit-said es packets unit) in
     let here : IsUnitOf es source = record {
       order = omega (arith, begins, ends, order);
@@ -159,7 +160,7 @@ spell-in-order start earliest es packets earlier [] [] (s ∷ ss) are in_order =
 spell-in-order start earliest es packets earlier [] (p ∷ ps) sources are in_order = absurd are
 spell-in-order start earliest es packets earlier (u ∷ us) [] sources are in_order = absurd are
 spell-in-order start earliest es packets earlier (u ∷ us) (p ∷ ps) [] are in_order = absurd are
-spell-in-order start earliest es packets earlier (unit ∷ units) (picture ∷ pictures) (source ∷ sources) (begins, ends, times, due, are) (next, in_order) =
+spell-in-order start earliest es packets earlier (unit ∷ units) (picture ∷ pictures) (source ∷ sources) (begins, ends, times, due, kind, role, are) (next, in_order) =
     let coded = next.coded in
     let bytes : slice_range es unit.0 unit.1 ≡ slice_range es source.begin source.end = ap₂ (slice_range es) (sym begins) (sym ends) in (
       picture.seq,

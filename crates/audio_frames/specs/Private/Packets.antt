@@ -39,7 +39,7 @@ pub record IsClockAt (starts : List PesStart) (places : List ℕ) (j : ℕ) (clo
   pub last : IsLastGiven starts places j clock.given clock.ago
   pub low : neg_ℤ (pos (2 ^ 54)) ≤ℤ clock.given
   pub high : clock.given ≤ℤ pos (2 ^ 54)
-  pub rate : 16000 ≤ clock.rate
+  pub rate : (16000 ≤ clock.rate) × (clock.rate ≤ 48000)
   pub time : clock.time ≡ (pos TICKS_PER_TIME_UNIT *ℤ clock.given) +ℤ pos (frame_ticks clock.rate clock.ago)
 
 -- what refuses frames for their times

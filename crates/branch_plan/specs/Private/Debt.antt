@@ -3,6 +3,7 @@ use Rattle.std.specs.Prelude.{◌≡◌, ◌≢◌, ℕ, ◌+◌, ◌*◌, ◌/�
 use Rattle.version_table.specs.declared.table.Table.{Table}
 use Rattle.version_table.specs.Table.{units_of}
 use Rattle.branch_plan.specs.declared.debt.Debt.{Debt}
+use Rattle.branch_plan.specs.declared.limits.TheConstants.{CHANGES_MOST}
 use Rattle.branch_plan.specs.declared.owing.Owing.{Owing}
 use Rattle.branch_plan.specs.Changes.{IsBestAlone, change_count}
 use Rattle.branch_plan.specs.Private.Known.{IsKnown}
@@ -10,7 +11,7 @@ use Rattle.branch_plan.specs.Private.Known.{IsKnown}
 -- a debt counts the single changes of a table
 pub record IsDebtOf (table : Table) (debt : Debt) : Type 0 where
   pub changes : debt.changes ≡ change_count table
-  pub few : debt.changes ≤ 33554432
+  pub few : debt.changes ≤ CHANGES_MOST
 
 -- runs enough for a whole round behind each of so many changes
 abbrev pub runs_for_all : (changes : ℕ) → ℕ

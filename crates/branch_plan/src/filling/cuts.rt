@@ -1,5 +1,5 @@
-use super::FilledUnit;
-use super::rooms::count_by;
+use super::stretches::{Stretch, count_by};
+use super::{FilledUnit, put_at};
 use crate::corners::{Corner, corner_at, ratio};
 
 /// How far before a miss packets are taken off, in ticks: half a second.
@@ -19,18 +19,28 @@ struct Cut {
 }
 
 /// Takes so many packets off the units that are due shortly before a time, by the steps down that cost least for a packet;
-/// off earlier ones where none is left there.
-pub(super) fn cut_before(units: &mut [FilledUnit], corners: &[Corner], due: u64, packets: u32) {
-    let until = count_by(units, due);
+/// off earlier ones where none is left there. Tells how many packets units before the open ones lost.
+pub(super) fn cut_before(
+    units: &mut [FilledUnit],
+    corners: &[Corner],
+    open: Stretch,
+    due: u64,
+    packets: u32,
+) -> i64 {
+    let until = count_by(units, due).min(open.until);
     let mut start = due.saturating_sub(REACH_TICKS);
     let mut first = count_by(units, start);
     let mut left = packets;
+    let mut before: i64 = 0;
     for _step in 0..packets {
         if left > 0 {
             match cheapest(units, corners, first, until, left) {
                 Some(cut) => {
                     put_at(units, cut.unit, cut.corner);
                     left = left.saturating_sub(cut.packets);
+                    if cut.unit < open.first {
+                        before = before.saturating_add(i64::from(cut.packets));
+                    }
                 }
                 None => {
                     start = start.saturating_sub(REACH_TICKS);
@@ -39,13 +49,7 @@ pub(super) fn cut_before(units: &mut [FilledUnit], corners: &[Corner], due: u64,
             }
         }
     }
-}
-
-/// Puts a unit at a corner.
-fn put_at(units: &mut [FilledUnit], unit: usize, corner: usize) {
-    if unit < units.len() {
-        units[unit].at = corner;
-    }
+    before
 }
 
 /// Of these units the step down that costs least for a packet of those that are wanted.

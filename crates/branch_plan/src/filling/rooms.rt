@@ -1,63 +1,126 @@
 ghost use Rattle.version_table.specs.Table.{IsValidTable};
 
 use super::FilledUnit;
+use super::stretches::{Stretch, count_by, units_of};
 use crate::corners::{Corner, corner_at};
 use dual_bounds::{capacity, window_capacity};
 use list_types::OutOfMemory;
 use multiplier_search::{SlackPlace, SlackTree};
 use std::alloc::Global;
-use stream_constants::decoder::EB_UNIT_BYTES;
+use stream_constants::decoder::{EB_UNIT_BYTES, HOLD_TICKS};
 use stream_constants::packets::PAYLOAD_BYTES;
 use version_table::Table;
+use version_table::limits::PROGRAMS_MOST;
 
 /// Packets that are taken off before a miss, at most.
 const CUT_MOST: u32 = 4_096;
 
-/// How many packets more each unit may have beside what the units have now. Fails only for want of memory.
+/// Below every number of slots.
+const NOTHING: i64 = i64::MIN / 4;
+
+/// How many packets more each open unit may have beside what the units have now. Fails only for want of memory.
 pub(super) fn room_beside(
     alloc: Global,
     units: &[FilledUnit],
     corners: &[Corner],
+    open: Stretch,
 ) -> Result<SlackTree, OutOfMemory> {
     let mut places = Vec::new(alloc);
-    for unit in units {
+    let mut least = open.unused;
+    for unit in units_of(units, open) {
         places.push(SlackPlace {
-            above: unit.above,
-            below: unit.below,
+            above: unit.above.saturating_sub(open.sent),
+            below: unit.below.saturating_sub(open.sent).max(least),
             packets: packets_of(corners, *unit),
         })?;
+        least = i64::MIN;
     }
+    places.push(SlackPlace {
+        above: open.beyond.saturating_sub(open.sent),
+        below: NOTHING,
+        packets: 0,
+    })?;
     SlackTree::new(alloc, places.as_slice())
 }
 
-/// Sets what may be sent by each unit's due time, and the slots that stand before those of each, where so many parts of 100 of
-/// the elementary buffers are reckoned to be filled.
-pub(super) fn set_rooms(table: &Table, units: &mut [FilledUnit], percent: u64)
+/// A number of packets for each program.
+pub(super) type Buffers = [i64; PROGRAMS_MOST];
+
+/// How many packets the elementary buffer of each program is reckoned to hold, filled to so many parts of 100.
+pub(super) fn buffers_of(table: &Table, percent: u64) -> Buffers {
+    let mut buffers = [0; PROGRAMS_MOST];
+    for (number, program) in table.programs.as_slice().iter().enumerate() {
+        let bytes = u64::from(program.vbv) * EB_UNIT_BYTES;
+        let held = bytes.saturating_mul(percent) / (100 * PAYLOAD_BYTES as u64);
+        add_packets(&mut buffers, number, held as i64);
+    }
+    buffers
+}
+
+/// Adds packets to those of a program.
+fn add_packets(buffers: &mut Buffers, program: usize, packets: i64) {
+    if program < PROGRAMS_MOST {
+        buffers[program] = buffers[program].saturating_add(packets);
+    }
+}
+
+/// Sets what may be sent by each unit's due time, and the slots that stand before those of each, where all of the elementary
+/// buffers can be filled.
+pub(super) fn set_rooms(table: &Table, units: &mut [FilledUnit], buffers: Buffers)
     requires { IsValidTable table.now }
 {
-    let held = held_packets(table, percent);
+    let held = held_of(buffers, buffers);
     let end = last_due(units);
     let whole = capacity(table, end);
     for place in 0..units.len() {
         let due = units[place].due;
-        let above = capacity(table, due);
-        let held_back = whole.saturating_sub(window_capacity(table, due, end));
-        let below = held_back.max(above.saturating_sub(held));
-        units[place].above = above;
-        units[place].below = if place == 0 { below.max(0) } else { below };
+        let free = capacity(table, due);
+        units[place].free = free;
+        units[place].above = free;
+        units[place].passed = whole.saturating_sub(window_capacity(table, due, end));
+        units[place].below = below_of(units[place], place, held);
     }
 }
 
-/// How many packets the elementary buffers are reckoned to hold, filled to so many parts of 100.
-fn held_packets(table: &Table, percent: u64) -> i64 {
+/// Sets the slots that stand before those of each open unit: of each program the elementary buffer holds no more than what is due
+/// within a second, in the versions that the units have now.
+pub(super) fn set_below(
+    units: &mut [FilledUnit],
+    corners: &[Corner],
+    open: Stretch,
+    buffers: Buffers,
+) {
+    let mut counts: Buffers = [0; PROGRAMS_MOST];
+    let mut counted = open.first;
+    for place in open.first..open.until.min(units.len()) {
+        let unit = units[place];
+        let until = count_by(units, unit.due.saturating_add(HOLD_TICKS));
+        for next in counted..until {
+            if next < units.len() {
+                let packets = packets_of(corners, units[next]);
+                add_packets(&mut counts, units[next].program, packets);
+            }
+        }
+        counted = counted.max(until);
+        units[place].below = below_of(unit, place, held_of(counts, buffers));
+        let packets = packets_of(corners, unit);
+        add_packets(&mut counts, unit.program, 0i64.saturating_sub(packets));
+    }
+}
+
+/// How many packets elementary buffers hold together, each as many as are sent to it at most.
+fn held_of(sent: Buffers, buffers: Buffers) -> i64 {
     let mut held: i64 = 0;
-    for program in table.programs.as_slice() {
-        let bytes = u64::from(program.vbv) * EB_UNIT_BYTES;
-        held = held.saturating_add(
-            (bytes.saturating_mul(percent) / (100 * PAYLOAD_BYTES as u64)) as i64,
-        );
+    for program in 0..PROGRAMS_MOST {
+        held = held.saturating_add(sent[program].min(buffers[program]));
     }
     held
+}
+
+/// The slots before the first that a unit may use, where the elementary buffers hold so many packets.
+fn below_of(unit: FilledUnit, place: usize, held: i64) -> i64 {
+    let below = unit.passed.max(unit.free.saturating_sub(held));
+    if place == 0 { below.max(0) } else { below }
 }
 
 /// The due time of the last unit.
@@ -70,9 +133,15 @@ fn last_due(units: &[FilledUnit]) -> u64 {
 
 /// Lowers the room of the last unit that is due by a time at which there was a miss, halfway to what is sent in time where that
 /// is known, else by so many packets; and tells by how many.
-pub(super) fn lower(units: &mut [FilledUnit], corners: &[Corner], due: u64, packets: u32) -> u32 {
-    let sent = sent_by(units, corners, due);
-    let count = count_by(units, due);
+pub(super) fn lower(
+    units: &mut [FilledUnit],
+    corners: &[Corner],
+    open: Stretch,
+    due: u64,
+    packets: u32,
+) -> u32 {
+    let sent = sent_by(units, corners, open, due);
+    let count = count_by(units, due).min(open.until);
     let place = count.saturating_sub(1);
     if place >= units.len() {
         return packets;
@@ -105,10 +174,10 @@ fn between(in_time: i64, missed: i64) -> i64 {
 }
 
 /// Notes for each unit that was missed before that what is sent by its due time, or may be, is in time, and raises its room.
-pub(super) fn note_in_time(units: &mut [FilledUnit], corners: &[Corner]) {
-    let mut sent: i64 = 0;
-    let mut unused: i64 = 0;
-    for place in 0..units.len() {
+pub(super) fn note_in_time(units: &mut [FilledUnit], corners: &[Corner], open: Stretch) {
+    let mut sent = open.sent;
+    let mut unused = open.unused;
+    for place in open.first..open.until.min(units.len()) {
         let unit = units[place];
         unused = unused.max(unit.below.saturating_sub(sent));
         sent = sent.saturating_add(packets_of(corners, unit));
@@ -136,10 +205,10 @@ pub(super) fn are_open(units: &[FilledUnit]) -> bool {
 }
 
 /// The packets that units have which are due by a time, and the slots before them that nothing may use.
-fn sent_by(units: &[FilledUnit], corners: &[Corner], due: u64) -> i64 {
-    let mut sent: i64 = 0;
-    let mut unused: i64 = 0;
-    for unit in units {
+fn sent_by(units: &[FilledUnit], corners: &[Corner], open: Stretch, due: u64) -> i64 {
+    let mut sent = open.sent;
+    let mut unused = open.unused;
+    for unit in units_of(units, open) {
         if unit.due <= due {
             unused = unused.max(unit.below.saturating_sub(sent));
             sent = sent.saturating_add(packets_of(corners, *unit));
@@ -148,18 +217,7 @@ fn sent_by(units: &[FilledUnit], corners: &[Corner], due: u64) -> i64 {
     sent.saturating_add(unused)
 }
 
-/// How many units are due by a time.
-pub(super) fn count_by(units: &[FilledUnit], due: u64) -> usize {
-    let mut count: usize = 0;
-    for unit in units {
-        if unit.due <= due {
-            count = count.saturating_add(1);
-        }
-    }
-    count
-}
-
 /// The packets that a unit has now.
-fn packets_of(corners: &[Corner], unit: FilledUnit) -> i64 {
+pub(super) fn packets_of(corners: &[Corner], unit: FilledUnit) -> i64 {
     i64::from(corner_at(corners, unit.at).packets)
 }

@@ -8,6 +8,7 @@ use Rattle.program_reader.specs.declared.program_fault.ProgramFault.TheVariants.
 use Rattle.program_reader.specs.declared.program_fault.SourceKind.{SourceKind}
 use Rattle.program_reader.specs.declared.program_fault.SourceKind.TheVariants.{ProgramLimit}
 use Rattle.program_reader.specs.Programs.{IsProgramOfFile, IsProgramRefused}
+use Rattle.job_programs.specs.Share.{KeepsShare}
 use Rattle.job_programs.specs.Programs.{bytes_of_files, units_of_programs, last_time}
 
 -- a packet of audio is due, and gone, no later than this
@@ -21,35 +22,48 @@ pub record KeepsTime (slot : ℕ) (program : Program) : Type 0 where
 
 -- ---- one program behind others
 
--- Behind files of so many bytes, whose programs have so many units: a file holds this program of a number, and the limits that they
--- share are kept.
-pub record IsProgramBehind (slot start bytes units number : ℕ) (drop : List ℕ) (content : List ℕ) (program : Program) : Type 0 where
+-- Behind files of so many bytes, whose programs have so many units: a file holds this program of a number, the limits that they
+-- share are kept, and what it takes of its table.
+pub record IsProgramBehind (slot start bytes units number : ℕ) (drop : List ℕ) (keeps : Program → Type 0) (content : List ℕ) (program : Program) : Type 0 where
   pub few_bytes : bytes + length content ≤ FILE_BYTES_MOST
   pub holds : IsProgramOfFile content number drop start program
   pub few_units : units + length program.units ≤ UNITS_MOST
   pub within : KeepsTime slot program
+  pub near : keeps program
 
 -- What refuses the next program, in this order: the bytes of the files together; what refuses the file by itself; the units of the
--- programs together, and a time past the last.
-pub data IsRefusedBehind (slot start bytes units number : ℕ) (drop : List ℕ) (content : List ℕ) (kind : SourceKind) (at : ℕ) : Type 0 where
+-- programs together, a time past the last, and what it takes of its table.
+pub data IsRefusedBehind (slot start bytes units number : ℕ) (drop : List ℕ) (keeps : Program → Type 0) (content : List ℕ) (kind : SourceKind) (at : ℕ) : Type 0 where
   many_bytes : FILE_BYTES_MOST < bytes + length content → kind ≡ ProgramLimit → at ≡ 0
-      → IsRefusedBehind slot start bytes units number drop content kind at
+      → IsRefusedBehind slot start bytes units number drop keeps content kind at
   file : bytes + length content ≤ FILE_BYTES_MOST → IsProgramRefused content number drop (Refused kind at)
-      → IsRefusedBehind slot start bytes units number drop content kind at
+      → IsRefusedBehind slot start bytes units number drop keeps content kind at
   many_units : (program : Program) → bytes + length content ≤ FILE_BYTES_MOST → IsProgramOfFile content number drop start program
       → UNITS_MOST < units + length program.units → kind ≡ ProgramLimit → at ≡ 0
-      → IsRefusedBehind slot start bytes units number drop content kind at
+      → IsRefusedBehind slot start bytes units number drop keeps content kind at
   late : (program : Program) → bytes + length content ≤ FILE_BYTES_MOST → IsProgramOfFile content number drop start program
       → ¬ KeepsTime slot program → kind ≡ ProgramLimit → at ≡ 0
-      → IsRefusedBehind slot start bytes units number drop content kind at
+      → IsRefusedBehind slot start bytes units number drop keeps content kind at
+  far : (program : Program) → bytes + length content ≤ FILE_BYTES_MOST → IsProgramOfFile content number drop start program
+      → ¬ keeps program → kind ≡ ProgramLimit → at ≡ 0
+      → IsRefusedBehind slot start bytes units number drop keeps content kind at
 
 -- ---- all programs
 
--- each file holds the program that the job wants of it, by itself
+-- a program takes no more of a table than its share, as a job weighs it
+abbrev pub job_keeps : ProgramJob → Program → Type 0
+job_keeps job program = KeepsShare job.weight job.drift job.coarser.items program
+
+-- a file holds the program that a job wants of it, and that keeps its share
+pub record HoldsKept (start : ℕ) (job : ProgramJob) (content : List ℕ) (program : Program) : Type 0 where
+  pub holds : IsProgramOfFile content job.program job.drop.items start program
+  pub near : job_keeps job program
+
+-- so does each file
 abbrev pub HoldPrograms : (start : ℕ) → List ProgramJob → (contents : List (List ℕ)) → List Program → Type 0
 HoldPrograms start [] [] [] = Unit {0}
 HoldPrograms start (job ∷ jobs) (content ∷ contents) (program ∷ programs) =
-    IsProgramOfFile content job.program job.drop.items start program × HoldPrograms start jobs contents programs
+    HoldsKept start job content program × HoldPrograms start jobs contents programs
 HoldPrograms start jobs contents programs = ⊥
 
 -- Files with these contents, one for each of these programs of a job, hold these programs, and the limits that they share are kept.

@@ -6,8 +6,8 @@ use Rattle.program_reader.specs.Audio.{IsDue}
 
 -- a time in ticks that is far from the ends of 64 bits
 pub record IsTime (time : ℤ) : Type 0 where
-  pub least : neg_ℤ (pos (4 * 10 ^ 18)) ≤ℤ time
-  pub most : time ≤ℤ pos (4 * 10 ^ 18)
+  pub least : neg_ℤ (pos (9 * 10 ^ 18)) ≤ℤ time
+  pub most : time ≤ℤ pos (9 * 10 ^ 18)
 
 -- such a time, and no earlier than another one
 pub record IsTimeFrom (earliest time : ℤ) : Type 0 where
@@ -26,6 +26,8 @@ pub record IsDueUnit (start : ℕ) (earliest : ℤ) (unit : KeptUnit) (source : 
   pub end : source.end ≡ unit.end
   pub times : source.times ≡ unit.times
   pub due : IsDue start earliest unit.ticks source.due
+  pub kind : source.kind ≡ unit.kind
+  pub role : source.role ≡ unit.role
 
 -- units with theirs
 abbrev pub AreDueUnits : ℕ → ℤ → List KeptUnit → List UnitSource → Type 0

@@ -1,8 +1,8 @@
 -- Units that are kept so far, and how far from 0 their times may be.
-use Rattle.std.specs.Prelude.{◌≡◌, ℕ, ◌+◌, ◌*◌, ◌^◌, ◌<◌, ◌≤◌, List, [], ◌∷◌, length, All, Option, Some, None, IfSome, pos, neg_ℤ, ◌≤ℤ◌}
+use Rattle.std.specs.Prelude.{◌≡◌, ℕ, ◌+◌, ◌*◌, ◌^◌, ◌≤◌, List, [], ◌∷◌, length, All, Option, Some, None, IfSome, pos, neg_ℤ, ◌≤ℤ◌}
 use Rattle.ts_demux.specs.declared.demuxed.PesUnit.{PesUnit}
 use Rattle.picture_grammar.specs.Picture.{IsState}
-use Rattle.program_reader.specs.declared.limits.TheConstants.{PACKETS_MOST}
+use Rattle.program_reader.specs.declared.limits.TheConstants.{FILE_BYTES_MOST, PES_PACKETS_MOST}
 use Rattle.program_reader.specs.declared.kept_units.KeptUnit.{KeptUnit}
 use Rattle.program_reader.specs.declared.kept_units.KeptUnits.{KeptUnits}
 use Rattle.program_reader.specs.declared.pes_packets.PlacedPacket.{PlacedPacket}
@@ -18,8 +18,8 @@ use Rattle.program_reader.specs.Private.TimedPictures.{IsShown}
 pub record IsVideo (held : TakenPackets) : Type 0 where
   pub packets : List PesUnit
   pub holds : Holds packets held
-  pub few : length held.packets.items ≤ PACKETS_MOST
-  pub small : length held.payload.items < 2 ^ 30
+  pub few : length held.packets.items ≤ PES_PACKETS_MOST
+  pub small : length held.payload.items ≤ FILE_BYTES_MOST
 
 -- units stand one behind the other, from a place on and within so many bytes
 abbrev pub Fits : ℕ → ℕ → List (ℕ × ℕ) → Type 0
@@ -28,7 +28,7 @@ Fits size from (unit ∷ units) = (from ≤ unit.0) × (unit.0 ≤ unit.1) × (u
 
 -- what is kept of a unit and its picture
 abbrev pub row_of : ℕ × ℕ → TimedPicture → KeptUnit
-row_of unit picture = record { begin = unit.0; end = unit.1; times = picture.times; ticks = picture.ticks }
+row_of unit picture = record { begin = unit.0; end = unit.1; times = picture.times; ticks = picture.ticks; kind = picture.coding.kind; role = picture.role }
 
 -- of each one
 abbrev pub AreRows : List (ℕ × ℕ) → List TimedPicture → List KeptUnit → Type 0

@@ -9,13 +9,13 @@ use Rattle.program_reader.specs.Private.Dues.{IsTimeFrom}
 -- a PES packet at a place of its stream: its payload has bytes, and all places are small
 pub record IsSized (at : ℕ) (packet : PlacedPacket) : Type 0 where
   pub some : packet.from < packet.end
-  pub small : packet.end < 2 ^ 32
-  pub place : at < 2 ^ 60
+  pub small : packet.end < 2 ^ 41
+  pub place : at + 2 ^ 42 < 2 ^ 64
 
 -- PES packets, each with payload bytes, whose payloads stand behind a place one behind the other
 abbrev pub Follow : ℕ → List PlacedPacket → Type 0
 Follow from [] = Unit {0}
-Follow from (packet ∷ packets) = (from ≤ packet.from) × (packet.from < packet.end) × (packet.end < 2 ^ 32) × Follow packet.end packets
+Follow from (packet ∷ packets) = (from ≤ packet.from) × (packet.from < packet.end) × (packet.end < 2 ^ 41) × Follow packet.end packets
 
 -- frames tell the same times of payload bytes as others, from a place on
 abbrev pub TellsFrom : ℕ → List Frame → List Frame → Type 0

@@ -1,7 +1,6 @@
 -- What is read of a program's streams, before its times are those of the earliest one.
 use Rattle.std.specs.Prelude.{ℕ, true, List, [], ◌∷◌, ◌++◌, map, All, ℤ}
 use Rattle.std.specs.List.{flat_map}
-use Rattle.audio_frames.specs.declared.frame.Frame.{Frame}
 use Rattle.ts_demux.specs.declared.demuxed.AudioStream.{AudioStream}
 use Rattle.ts_demux.specs.declared.demuxed.Demuxed.{Demuxed}
 use Rattle.ts_demux.specs.declared.demuxed.PesUnit.{PesUnit}

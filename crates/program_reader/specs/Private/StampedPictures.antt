@@ -5,7 +5,8 @@ use Rattle.std.specs.Option.{option_map_or}
 use Rattle.pes_units.specs.declared.times.Times.{Times}
 use Rattle.program_reader.specs.declared.pes_packets.PlacedPacket.{PlacedPacket}
 use Rattle.program_reader.specs.declared.picture_times.StampedPicture.{StampedPicture}
-use Rattle.program_reader.specs.PictureTimes.{first_picture, no_times, times_at}
+use Rattle.es_units.specs.Pictures.{first_picture}
+use Rattle.program_reader.specs.PictureTimes.{no_times, times_at}
 
 -- a picture at a place, if there is one, with these times
 abbrev pub stamp_at : Times → Option ℕ → List StampedPicture

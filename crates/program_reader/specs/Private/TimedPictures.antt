@@ -1,5 +1,5 @@
 -- Which times a picture may have, so that those behind it are numbers of 64 bits.
-use Rattle.std.specs.Prelude.{◌≡◌, ◌⊎◌, ◌≤◌, ℕ, ◌+◌, ◌/◌, ◌^◌, true, List, [], ◌∷◌, IfSome, Option, Some, None, Result, Ok, Err, if◌then◌else◌, pos, neg_ℤ, ◌≤ℤ◌}
+use Rattle.std.specs.Prelude.{◌≡◌, ◌⊎◌, ◌≤◌, ℕ, ◌+◌, ◌*◌, ◌/◌, ◌^◌, true, List, [], ◌∷◌, IfSome, Option, Some, None, Result, Ok, Err, if◌then◌else◌, pos, neg_ℤ, ◌≤ℤ◌}
 use Rattle.syntax_types.specs.declared.picture.PicCoding.{PicCoding}
 use Rattle.syntax_types.specs.declared.picture.SeqState.{SeqState}
 use Rattle.picture_grammar.specs.Refusal.{Refusal}
@@ -25,8 +25,8 @@ pub record IsPossible (picture : TimedPicture) : Type 0 where
   pub state : IsState picture.seq
   pub stated_least : neg_ℤ (pos (2 ^ 54)) ≤ℤ picture.stated
   pub stated_most : picture.stated ≤ℤ pos (2 ^ 54)
-  pub ticks_least : neg_ℤ (pos (2 ^ 62)) ≤ℤ picture.ticks
-  pub ticks_most : picture.ticks ≤ℤ pos (2 ^ 62)
+  pub ticks_least : neg_ℤ (pos (9 * 10 ^ 18)) ≤ℤ picture.ticks
+  pub ticks_most : picture.ticks ≤ℤ pos (9 * 10 ^ 18)
   pub shown_before : IfSome picture.reference_before IsShown
   pub shown_behind : IfSome picture.reference_behind IsShown
 

@@ -1,5 +1,5 @@
 -- The counts of several versions at once, kept by what they count.
-use Rattle.std.specs.Prelude.{◌≡◌, ◌<◌, ◌≤◌, ◌+◌, ◌-◌, ◌*◌, ◌==◌, ◌||◌, ℕ, not, true, false, length, slice_index, if◌then◌else◌}
+use Rattle.std.specs.Prelude.{◌≡◌, ◌<◌, ◌≤◌, ◌+◌, ◌-◌, ◌*◌, ◌==◌, ◌||◌, ℕ, not, true, false, List, length, slice_index, if◌then◌else◌}
 use Rattle.bit_lists.specs.Fields.{flag}
 use Rattle.prefix_codes.specs.declared.symbol.TheConstants.{END_OF_BLOCK}
 use Rattle.prefix_codes.specs.declared.table_name.TableName.TheVariants.{CoeffZero}
@@ -10,6 +10,10 @@ use Rattle.requantiser.specs.declared.counts.Counts.{Counts}
 use Rattle.requantiser.specs.declared.tally.Tally.{Tally}
 use Rattle.requantiser.specs.declared.targets.Targets.{Targets}
 use Rattle.requantiser.specs.Private.Lengths.{length_by}
+
+-- the counts with these sums of squares
+abbrev pub with_squares : Counts → List ℕ → Counts
+with_squares counts squares = record counts { squares = squares }
 
 -- the tally of a version by its number
 abbrev pub tally_in : Targets → Counts → (k : ℕ) → k < 8 → Tally

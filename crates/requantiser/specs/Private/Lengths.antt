@@ -23,7 +23,11 @@ table_numbered (suc (suc n)) = CoeffOne
 abbrev pub table_number : BlockWay → ℕ → ℕ
 table_number way place = if way.intra then (if way.vlc_one then 2 else 0) else (if place == 0 then 1 else 0)
 
--- the lengths of coefficients by table, run and size, those that are known
+-- where the lengths of a size stand in a table of 16 sizes by 64 runs; 0 may stand for any
+abbrev pub IsRow : ℕ → ℕ → Type 0
+IsRow row size = (row < 1024) × (0 < row → row ≡ 64 * size)
+
+-- the lengths of coefficients by table, size and run, those that are known
 abbrev pub AreLengths : List ℕ → Type 0
-AreLengths lengths = (number run size : ℕ) → run < 64 → size < 16 → 0 < slice_index lengths (1024 * number + 16 * run + size) →
-    (slice_index lengths (1024 * number + 16 * run + size) ≡ length_by (table_numbered number) run size) × (slice_index lengths (1024 * number + 16 * run + size) ≤ 42) × (0 < size)
+AreLengths lengths = (number run size : ℕ) → run < 64 → size < 16 → 0 < slice_index lengths (1024 * number + 64 * size + run) →
+    (slice_index lengths (1024 * number + 64 * size + run) ≡ length_by (table_numbered number) run size) × (slice_index lengths (1024 * number + 64 * size + run) ≤ 42) × (0 < size)

@@ -2,6 +2,7 @@
 use Rattle.std.specs.Prelude.{◌≡◌, ◌<◌, ◌≤◌, ◌+◌, ◌*◌, ◌^◌, ℕ, ℤ, List, Bool, slice_index, unsigned_abs, if◌then◌else◌}
 use Rattle.quant_math.specs.Levels.{coarser_level}
 use Rattle.requantiser.specs.Private.Changes.{level_change}
+use Rattle.requantiser.specs.Private.Lengths.{IsRow}
 
 -- the size of what a level under a scale becomes under another one, and how far its coefficient moves
 abbrev pub IsRescaled : ℤ → ℕ → ℕ → Bool → ℕ → ℕ → ℕ → Type 0
@@ -25,3 +26,7 @@ AreRescaledBy level number scales sizes squares =
 -- from this version on it becomes 0
 abbrev pub IsGoneFrom : ℕ → List ℕ → Type 0
 IsGoneFrom living sizes = (k : ℕ) → living ≤ k → k < 8 → slice_index sizes k ≡ 0
+
+-- where the lengths of these sizes stand in a table
+abbrev pub AreRows : List ℕ → List ℕ → Type 0
+AreRows rows sizes = (k : ℕ) → k < 8 → IsRow (slice_index rows k) (slice_index sizes k)

@@ -15,7 +15,7 @@ use Rattle.ts_demux.specs.declared.table_walk.Reading.TheVariants.{AllRead, Goes
 use Rattle.ts_demux.specs.declared.table_walk.TableWalk.{TableWalk}
 use Rattle.ts_demux.specs.Tables.{pat_pid, Names, IsBadPat, IsBadPmt, IsMapOf, refuse, take, StopsFirst, sections_at}
 use Rattle.ts_demux.specs.SectionReader.{Waits}
-use Rattle.ts_demux.specs.TableWalk.{IsQuiet, IsNamed, IsKnown, IsMapReader, missing_of}
+use Rattle.ts_demux.specs.TableWalk.{IsQuiet, IsNamed, IsKnown, IsMapReader, IsPidKnown, missing_of}
 
 -- the sections of a packet of PID 0 are read, the first ones done
 pub record IsInPat (file : List ℕ) (packet : ℕ) (walk : TableWalk) : Type 0 where
@@ -52,6 +52,13 @@ Reads file program (Ok AllRead) on behind = behind
 Reads file program (Ok GoesOn) on behind = on
 Reads file program (Ok (Map map)) on behind = StopsFirst file program (take map)
 Reads file program (Err fault) on behind = StopsFirst file program (refuse fault)
+
+-- where a section gives the map its PID is known
+abbrev pub KnowsWhereRead : List ℕ → ℕ → Result Reading DemuxFault → Known → Type 0
+KnowsWhereRead file program (Ok AllRead) known = Unit {0}
+KnowsWhereRead file program (Ok GoesOn) known = Unit {0}
+KnowsWhereRead file program (Ok (Map map)) known = IsPidKnown file program known
+KnowsWhereRead file program (Err fault) known = Unit {0}
 
 -- the n-th packet is of the PMT's PID, which isn't PID 0
 abbrev pub IsOnMapPid : List ℕ → ℕ → Known → Type 0

@@ -30,11 +30,8 @@ returns-then-next-clock-clause-refused c = λ payload timed.
     (subst (λ (n : ℕ). TimedUpTo n c.args.rate c.args.starts.now c.args.places.now c.loop-frame.frame c.loop-frame.clock c.loop-frame.begin c.loop-frame.frames) (sym timed.long) c.loop-frame.invariant)
     c.next-next.ensures.clock c.next-next.ensures.rate (omega arith) (omega (arith, ints, c.if-next-clock.true))
 
-pub frame_of-requires-clause-order : goal.frame_of-requires-clause-order
-frame_of-requires-clause-order c = omega (arith, c.loop-frame.invariant.begun, c.requires.apart.rising c.loop-frame.frame (omega arith))
-
-pub frame_of-requires-clause-size : goal.frame_of-requires-clause-size
-frame_of-requires-clause-size c = omega (arith, c.requires.size, c.requires.apart.inside (c.loop-frame.frame + 1) (omega arith))
+pub frame_of-requires : goal.frame_of-requires
+frame_of-requires c = omega (arith, c.loop-frame.invariant.begun, c.requires.apart.rising c.loop-frame.frame (omega arith))
 
 pub loop-frame-preserved : goal.loop-frame-preserved
 loop-frame-preserved c =
@@ -46,8 +43,8 @@ loop-frame-preserved c =
     (omega (arith, ints, c.if-next-clock.false)) c.frame_of.ensures.at c.frame_of.ensures.end
     (c.frame_of.ensures.time ∙ to_z-of_z w64 c.loop-frame.clock.time fits))
 
-pub frame_of-requires-2-clause-order : goal.frame_of-requires-2-clause-order
-frame_of-requires-2-clause-order c =
+pub frame_of-requires-2 : goal.frame_of-requires-2
+frame_of-requires-2 c =
     let some : length c.args.places.now ≢ 0 = eqb-false (length c.args.places.now) 0 (sym c.is_empty.ensures ∙ c.if-is_empty.false) in
     omega (arith, c.loop-frame.invariant.begun, c.requires.apart.inside c.loop-frame.frame (omega (arith, some)))
 

@@ -11,8 +11,8 @@ pub path_to-requires-clause-number : goal.path_to-requires-clause-number
 path_to-requires-clause-number c =
     omega (arith, (place_open c.args.table.now c.args.nodes c.args.bound c.args.number c.args.growth c.requires.taken).within, c.requires.taken.grown.is.as_many, ap length c.as_slice.ensures.value)
 
-pub closest_unit-requires-clause-fixed : goal.closest_unit-requires-clause-fixed
-closest_unit-requires-clause-fixed c =
+pub unit_to_branch-requires-clause-fixed : goal.unit_to_branch-requires-clause-fixed
+unit_to_branch-requires-clause-fixed c =
     let table = c.args.table.now in
     let taken = c.requires.taken in
     let path = taken.grown.path in
@@ -20,8 +20,8 @@ closest_unit-requires-clause-fixed c =
     let fixed_is : c.in_ok-fixed.fixed ≡ path c.args.number = c.in_ok-fixed.ensures path (search rules) in
     subst (λ (f : List (Option ℕ)). FixesVersions table f) (sym fixed_is) (taken.grown.is.fixes c.args.number at.within)
 
-pub index-requires : goal.index-requires
-index-requires c = omega (arith, (place_open c.args.table.now c.args.nodes c.args.bound c.args.number c.args.growth c.requires.taken).within)
+pub index-leaf-requires : goal.index-leaf-requires
+index-leaf-requires c = omega (arith, (place_open c.args.table.now c.args.nodes c.args.bound c.args.number c.args.growth c.requires.taken).within)
 
 pub unreachable-requires : goal.unreachable-requires
 unreachable-requires c =

@@ -32,6 +32,7 @@ loop-i-preserved c =
         costs_more owner.slot c.args.windows.now owner.number owner.vbv c.args.units.now c.args.fixed.now c.loop-i.i c.index-units-i.result None c.loop-i-test.true within,
       );
       small = omega (arith, c.loop-i.invariant.small, c.least_cost-total.ensures.small);
+      near = c.go_to.ensures;
     }
 
 pub returns-clause-value : goal.returns-clause-value

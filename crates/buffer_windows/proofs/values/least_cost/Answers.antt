@@ -14,18 +14,18 @@ none = record { bytes = 0; distortion = 0 }
 pub returns-in-Some-clause-value : goal.returns-in-Some-clause-value
 returns-in-Some-clause-value c =
     let unit : OwnedUnit = record { program = c.args.owner.number; vbv = c.args.owner.vbv; unit = c.args.unit.now } in
-    let prices = c.prices_of-prices.result in
+    let prices = c.near_prices-prices.result in
     let items = ap (λ (versions : List Version). cost_at prices (get_or versions c.from.result none)) c.deref.ensures.0 in
     let place = ap (λ k. cost_at prices (get_or c.args.unit.now.versions.items k none)) c.from.ensures in
     c.cost.ensures.value ∙ items ∙ place
-    ∙ sym (least_cost-is c.args.owner.slot c.args.windows.now unit prices c.prices_of-prices.ensures.value c.args.fixed
+    ∙ sym (least_cost-is c.args.owner.slot c.args.windows.now unit prices c.near_prices-prices.ensures.value c.args.fixed
     ∙ ap (λ entry. least (map (cost_at prices) (versions_left unit entry))) c.in-Some.is)
 
 pub returns-in-None-clause-value : goal.returns-in-None-clause-value
 returns-in-None-clause-value c =
     let unit : OwnedUnit = record { program = c.args.owner.number; vbv = c.args.owner.vbv; unit = c.args.unit.now } in
-    let prices = c.prices_of-prices.result in
+    let prices = c.near_prices-prices.result in
     let items = ap (λ (versions : List Version). least (map (cost_at prices) (filter (λ version. nat_le version.bytes (EB_UNIT_BYTES * c.args.owner.vbv)) versions))) c.as_slice.ensures.value in
     c.least_of_versions.ensures.value ∙ items
-    ∙ sym (least_cost-is c.args.owner.slot c.args.windows.now unit prices c.prices_of-prices.ensures.value c.args.fixed
+    ∙ sym (least_cost-is c.args.owner.slot c.args.windows.now unit prices c.near_prices-prices.ensures.value c.args.fixed
     ∙ ap (λ entry. least (map (cost_at prices) (versions_left unit entry))) c.in-None.is)

@@ -7,3 +7,4 @@ returns c =
     (λ said. let yes = c.is_plan.ensures.1 said in let no = c.if-is_plan.false in cc)
     (λ said. let yes = c.is_check.ensures.1 said in let no = c.if-is_check.false in cc)
     (λ said. let yes = c.is_check_plan.ensures.1 said in let no = c.if-is_check_plan.false in cc)
+    (λ said. let yes = c.is_fit.ensures.1 said in let no = c.if-is_fit.false in cc)

@@ -1,9 +1,9 @@
-use Rattle.std.proofs.Common.{rules, ◌≡◌, ◌<◌, ◌≤◌, false, refl, subst}
+use Rattle.std.proofs.Common.{rules, ◌≡◌, ◌<◌, false, refl}
 use Rattle.std.proofs.lemmas.Result.{err_from_is_err_and}
-use Rattle.version_table.specs.declared.limits.TheConstants.{TEXT_AUDIO_PACKETS_MOST}
+use Rattle.job_programs.specs.declared.limits.TheConstants.{PROBED_AUDIO_PACKETS_MOST}
 use Rattle.program_reader.specs.declared.program_fault.SourceKind.TheVariants.{ProgramLimit}
 use Rattle.job_programs.specs.declared.source_fault.SourceFault.{SourceFault}
-use Rattle.job_programs.specs.Probe.{audio_packets}
+use Rattle.job_programs.specs.Share.{audio_packets}
 use Rattle.job_programs.proofs.Ends.{ends_so}
 use Rattle.job_programs.proofs.ProbeLemmas.{probe-cause, packets-refused, not-few}
 use Rattle.job_programs.proofs.probe.read_one.Goals as goal
@@ -20,9 +20,9 @@ returns-then-not-has_few_packets-clause-cause g c =
     let next = c.in_ok-next.next in
     let fault : SourceFault = record { program = 0; kind = ProgramLimit; at = 0 } in
     let fails : c.has_few_packets.result ≡ false = search rules in
-    let many : TEXT_AUDIO_PACKETS_MOST < audio_packets c.as_slice.result.now =
-    not-few c.has_few_packets.result (audio_packets c.as_slice.result.now) TEXT_AUDIO_PACKETS_MOST c.has_few_packets.ensures fails in
-    let many' : TEXT_AUDIO_PACKETS_MOST < audio_packets next.program.audios = rw (← c.as_slice.ensures) many in
+    let many : PROBED_AUDIO_PACKETS_MOST < audio_packets c.as_slice.result.now =
+    not-few c.has_few_packets.result (audio_packets c.as_slice.result.now) PROBED_AUDIO_PACKETS_MOST c.has_few_packets.ensures fails in
+    let many' : PROBED_AUDIO_PACKETS_MOST < audio_packets next.program.audios = rw (← c.as_slice.ensures) many in
     packets-refused (g.K.Shelf.files c.args.shelf.now) c.args.name.now c.args.slot c.args.start c.args.number c.args.drop.now next.size next.program fault
     c.in_ok-next.ensures.next many' refl refl refl
 

@@ -21,9 +21,9 @@ returns-in_err-next-clause-cause g c =
     let within = subst (λ (jobs : List ProgramJob). l.wanted-index < length jobs) same c.loop-wanted-test.true in
     let is = subst (λ (jobs : List ProgramJob). wanted ≡ get_or jobs l.wanted-index wanted) same c.wanted-item.is in
     let read = subst (λ (jobs : List ProgramJob). ReadSoFar told job.slot job.start (take l.wanted-index jobs) l.programs l.bytes l.units) same l.invariant.read in
-    rw (p.1, p.2) (stopped told (g.K.Shelf.files l.shelf) job l.wanted-index wanted l.programs l.bytes l.units l.place c.as_str.result.now c.as_slice.result.now
+    rw (p.1, p.2) (stopped told (g.K.Shelf.files l.shelf) job l.wanted-index wanted l.programs l.bytes l.units l.place c.as_str.result.now c.as_slice.result.now c.as_slice-in-loop-wanted.result.now
     (g.K.Shelf.counts c.args.shelf.now) (g.K.Shelf.counts l.shelf) (g.K.Shelf.counts c.read_next.new.shelf) (g.K.Shelf.since_fault c.read_next.new.shelf)
-    c.in_err-next.field-0.0 l.invariant.files c.as_str.ensures c.as_slice.ensures.value l.invariant.place within is read
+    c.in_err-next.field-0.0 l.invariant.files c.as_str.ensures c.as_slice.ensures.value c.as_slice-in-loop-wanted.ensures.value l.invariant.place within is read
     l.invariant.counts c.read_next.ensures.counts c.in_err-next.ensures.cause)
 
 pub returns-in_err-next-clause-asked : goal.returns-in_err-next-clause-asked
@@ -76,13 +76,13 @@ loop-wanted-preserved g c =
     let is = subst (λ (jobs : List ProgramJob). wanted ≡ get_or jobs i wanted) same c.wanted-item.is in
     let stands = subst (λ (name : List ℕ). Contains (map (λ (job : ProgramJob). job.file) job.programs) name) (sym c.as_str.ensures)
     (file-stands job.programs i wanted within is) in
-    let r = went-on told (g.K.Shelf.files l.shelf) job.slot job.start jobs i wanted l.programs l.bytes l.units next.size next.program c.as_str.result.now c.as_slice.result.now
-    l.invariant.files c.as_str.ensures c.as_slice.ensures.value c.loop-wanted-test.true c.wanted-item.is l.invariant.read c.in_ok-next.ensures.next in
+    let r = went-on told (g.K.Shelf.files l.shelf) job.slot job.start jobs i wanted l.programs l.bytes l.units next.size next.program c.as_str.result.now c.as_slice.result.now c.as_slice-in-loop-wanted.result.now
+    l.invariant.files c.as_str.ensures c.as_slice.ensures.value c.as_slice-in-loop-wanted.ensures.value c.loop-wanted-test.true c.wanted-item.is l.invariant.read c.in_ok-next.ensures.next in
     let r1 = subst (λ (n : ℕ). ReadSoFar told job.slot job.start (take (i + 1) jobs) (l.programs ++ next.program ∷ []) (l.bytes + next.size) (l.units + n)) (sym c.len-units.ensures) r in
     record {
       read = subst (λ (ps : List Program). ReadSoFar told job.slot job.start (take (i + 1) jobs) ps (l.bytes + next.size) (l.units + c.len-units.result)) (sym c.in_ok-push.ensures.ok) r1;
       sized = λ want. job_sizes_more jobs i wanted l.programs next.program c.push.new.self l.sizes next.sizes c.push-in-loop-wanted.new.self c.as_slice-in-loop-wanted.result.now c.loop-wanted-test.true c.wanted-item.is
-          c.as_slice-in-loop-wanted.ensures.value c.in_ok-push.ensures.ok c.in_ok-push-2.ensures.ok (l.invariant.sized want) (c.in_ok-next.ensures.sizes want);
+          c.as_slice-in-loop-wanted.ensures.value c.in_ok-push.ensures.ok c.in_ok-push-2.ensures.ok (l.invariant.sized want) (c.in_ok-next.ensures.sizes (c.wants_sizes.ensures.asked want));
       place = omega (arith, l.invariant.place);
       files = c.read_next.ensures.files ∙ l.invariant.files;
       asked = asks-more job.programs c.as_str.result.now (g.K.Shelf.asked c.args.shelf.now) (g.K.Shelf.asked l.shelf) (g.K.Shelf.asked c.read_next.new.shelf)

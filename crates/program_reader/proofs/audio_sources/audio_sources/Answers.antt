@@ -1,4 +1,4 @@
-use Rattle.std.proofs.Common.{◌<◌, ◌≤◌, length, arith}
+use Rattle.std.proofs.Common.{◌≤◌, length, arith}
 use Rattle.std.specs.List.{sum_by}
 use Rattle.program_reader.proofs.SourceLemmas.{streams_count, stream_here, each_here, sources_more, sources_all}
 use Rattle.program_reader.proofs.audio_sources.audio_sources.Goals as goal
@@ -11,10 +11,10 @@ offset_bounds-read-at c = omega (arith, c.loop-at-test.true, c.requires.count)
 
 pub audio_source-requires-clause-few : goal.audio_source-requires-clause-few
 audio_source-requires-clause-few c =
-    each_here (λ stream. length stream.units ≤ 2855696) c.args.streams.now c.loop-at.at c.index-streams-at.result c.requires.few c.loop-at-test.true c.index-streams-at.is
+    each_here (λ stream. length stream.units ≤ 4000000) c.args.streams.now c.loop-at.at c.index-streams-at.result c.requires.few c.loop-at-test.true c.index-streams-at.is
 
 pub audio_source-requires-clause-size : goal.audio_source-requires-clause-size
-audio_source-requires-clause-size c = each_here (λ stream. sum_by (λ packet. length packet.bytes) stream.units < 1073741824) c.args.streams.now c.loop-at.at c.index-streams-at.result
+audio_source-requires-clause-size c = each_here (λ stream. sum_by (λ packet. length packet.bytes) stream.units ≤ 1099511627776) c.args.streams.now c.loop-at.at c.index-streams-at.result
     c.requires.size c.loop-at-test.true c.index-streams-at.is
 
 pub audio_source-requires-clause-read : goal.audio_source-requires-clause-read

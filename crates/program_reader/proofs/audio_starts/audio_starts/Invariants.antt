@@ -1,5 +1,5 @@
 use Rattle.std.proofs.Common.{◌≡◌, take}
-use Rattle.program_reader.specs.declared.limits.TheConstants.{PACKETS_MOST}
+use Rattle.program_reader.specs.declared.limits.TheConstants.{PES_PACKETS_MOST}
 use Rattle.program_reader.specs.Audio.{AreStartsOf}
 use Rattle.program_reader.specs.Private.AudioStarts.{last_time, IsNear, AreNear}
 use Rattle.program_reader.proofs.audio_starts.audio_starts.Given as goal
@@ -9,5 +9,5 @@ invariant-loop-packet l = record {
   starts : AreStartsOf l.first.time (take l.packet-index l.packets) l.starts.items;
   before : l.before.time ≡ last_time l.first.time l.starts.items;
   near : IsNear l.packet-index l.before.time;
-  all_near : AreNear PACKETS_MOST l.starts.items;
+  all_near : AreNear PES_PACKETS_MOST l.starts.items;
 }

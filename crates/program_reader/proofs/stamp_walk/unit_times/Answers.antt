@@ -1,5 +1,5 @@
 use Rattle.std.proofs.Common.{◌+◌, ◌-◌, sym, arith}
-use Rattle.program_reader.specs.PictureTimes.{begins_picture}
+use Rattle.es_units.specs.Pictures.{begins_picture}
 use Rattle.program_reader.proofs.StampLemmas.{rising_less, within, tells_unit, tells_more}
 use Rattle.program_reader.proofs.PlaceLemmas.{found_from}
 use Rattle.program_reader.proofs.stamp_walk.unit_times.Goals as goal

@@ -1,9 +1,12 @@
 use Rattle.std.proofs.Common.{List, All, None, length, map, sym, ap, subst, ◌∙◌}
 use Rattle.bit_lists.specs.Fields.{AreBytes}
 use Rattle.program_reader.specs.declared.program.UnitSource.{UnitSource}
+use Rattle.std.proofs.lemmas.List.{length-map}
+use Rattle.program_reader.specs.Sizes.{stands_at}
+use Rattle.job_programs.proofs.NearLemmas.{sizes-many}
 use Rattle.program_table.specs.Private.Rows.{CanBeSaid}
 use Rattle.program_table.specs.Table.{audio_row}
-use Rattle.program_table.proofs.SizedRows.{all-bounded, all-said, row-sized, sizes-many}
+use Rattle.program_table.proofs.SizedRows.{all-bounded, all-said, row-sized}
 use Rattle.program_table.proofs.sized_row.row_of_sized_program.Goals as goal
 
 pub rows_of_sized_units-requires-clause-units : goal.rows_of_sized_units-requires-clause-units
@@ -14,7 +17,8 @@ rows_of_sized_units-requires-clause-units c =
 pub rows_of_sized_units-requires-clause-as_many : goal.rows_of_sized_units-requires-clause-as_many
 rows_of_sized_units-requires-clause-as_many c =
     let program = c.args.program.now in
-    sizes-many program.video c.requires.sizes.0 None program.units c.args.sizes.now c.requires.sizes.1 ∙ ap (λ (units : List UnitSource). length units) (sym c.as_slice.ensures)
+    sizes-many program.video c.requires.sizes.0 None (map stands_at program.units) c.args.sizes.now c.requires.sizes.1 ∙ length-map program.units stands_at
+    ∙ ap (λ (units : List UnitSource). length units) (sym c.as_slice.ensures)
 
 pub rows_of_sized_units-requires-clause-bounded : goal.rows_of_sized_units-requires-clause-bounded
 rows_of_sized_units-requires-clause-bounded c =
@@ -23,5 +27,5 @@ rows_of_sized_units-requires-clause-bounded c =
 
 pub returns : goal.returns
 returns c = λ coarser are.
-    row-sized c.args.program.now coarser c.args.weight c.as_slice.result.now c.args.sizes.now c.in_ok-units.units c.in_ok-audios.audios c.as_slice.ensures c.in_ok-units.ensures
+    row-sized c.args.program.now coarser c.args.weight c.args.drift c.as_slice.result.now c.args.sizes.now c.in_ok-units.units c.in_ok-audios.audios c.as_slice.ensures c.in_ok-units.ensures
     (c.in_ok-audios.ensures ∙ ap (map audio_row) c.as_slice-2.ensures) are

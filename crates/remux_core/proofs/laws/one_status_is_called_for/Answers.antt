@@ -11,5 +11,6 @@ returns c =
       probe = c.probe_calls_for_one.ensures;
       check_plan = c.check_plan_calls_for_one.ensures;
       impossible = c.impossible_calls_for_one.ensures;
+      fit = c.fit_calls_for_one.ensures;
     } in
     words_call_for_one laws

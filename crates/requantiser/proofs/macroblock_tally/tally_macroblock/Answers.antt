@@ -1,5 +1,5 @@
-use Rattle.std.proofs.Common.{◌<◌, ℕ, get_or, subst, arith}
-use Rattle.std.specs.Prelude.{slice_index}
+use Rattle.std.proofs.Common.{◌≡◌, ◌<◌, ◌≤◌, ℕ, length, get_or, rules, subst, arith}
+use Rattle.std.specs.Prelude.{Bool, true, false, slice_index, if◌then◌else◌}
 use Rattle.requantiser.specs.Private.Counts.{tally_in}
 use Rattle.requantiser.specs.Tallies.{IsTallyOf}
 use Rattle.requantiser.proofs.BlockTallies.{all_tallied}
@@ -25,6 +25,16 @@ add_blocks-requires-clause-start c = λ k below. record {
 pub code_in_force-code-requires-clause-written : goal.code_in_force-code-requires-clause-written
 code_in_force-code-requires-clause-written c = (walkable c.args.coding.now c.args.from.now c.requires.spelled).measured.code
 
+pub write_tallies-requires-clause-next : goal.write_tallies-requires-clause-next
+write_tallies-requires-clause-next c = λ k below. few c.args.from.now.kind.intra (slice_index c.add_blocks.new.counts.next k) (c.add_blocks.ensures k below).next
+  where
+    few : (intra : Bool) (next : ℕ) → next ≡ (if intra then 1 else 0) → next ≤ 64
+    few true next is = omega (arith, is)
+    few false next is = omega (arith, is)
+
+pub write_tallies-requires-clause-patterns : goal.write_tallies-requires-clause-patterns
+write_tallies-requires-clause-patterns c = λ k below. (c.add_blocks.ensures k below).small_pattern
+
 pub returns-clause-tallies : goal.returns-clause-tallies
 returns-clause-tallies c = λ k d below.
     let within : k < 8 = omega (arith, below, c.requires.few) in
@@ -34,3 +44,8 @@ returns-clause-tallies c = λ k d below.
     (subst (λ code. IsTallyOf c.args.seq.now c.args.coding.now code m c.args.from.now last) c.code_in_force-code.ensures.value
     (all_tallied c.args.seq.now c.args.coding.now m c.code_in_force-code.result c.args.from.now (tally_in c.of-targets.result c.new-counts.result k within) last
     (walkable c.args.coding.now c.args.from.now c.requires.spelled).shape.six (c.of-targets.ensures.codes k below) (c.add_blocks.ensures k within)))
+
+pub returns-then-is_empty-clause-tallies : goal.returns-then-is_empty-clause-tallies
+returns-then-is_empty-clause-tallies c = λ k d below.
+    let none : length c.args.ratios.now ≤ 0 = search rules in
+    absurd (omega (arith, below, none))

@@ -3,7 +3,7 @@ use Rattle.quant_math.specs.Levels.{coarser_level}
 use Rattle.syntax_types.specs.declared.block.RunLevel.{RunLevel}
 use Rattle.picture_grammar.specs.Block.{first_place}
 use Rattle.requantiser.specs.Private.Changes.{change_in, level_change, new_level_in, weight_in}
-use Rattle.requantiser.specs.Private.Counts.{tally_in}
+use Rattle.requantiser.specs.Private.Counts.{tally_in, with_squares}
 use Rattle.requantiser.proofs.Counted.{none_counted}
 use Rattle.requantiser.proofs.PairSteps.{held_level, one_fits}
 use Rattle.requantiser.proofs.Tallies.{block_counted, one_tally}
@@ -48,8 +48,8 @@ loop-pair-preserved c =
       each = λ k below.
           let scale : ℕ = get_or c.args.targets.now.scales k 0 in
           one_tally c.args.way (new_level_in c.args.weights.now c.args.rescaling.alternate intra from scale) (change_in c.args.weights.now c.args.rescaling.alternate intra from scale)
-          c.loop-pair.place c.loop-pair.pair-index c.args.pairs.now no_pair (tally_in c.args.targets.now c.args.counts.now k below) (tally_in c.args.targets.now c.loop-pair.counts k below)
-          (tally_in c.args.targets.now c.add_coefficient.new.counts k below) _ _ within
+          c.loop-pair.place c.loop-pair.pair-index c.args.pairs.now no_pair (tally_in c.args.targets.now c.args.counts.now k below) (tally_in c.args.targets.now (with_squares c.loop-pair.counts c.loop-pair.squares) k below)
+          (tally_in c.args.targets.now (with_squares c.add_coefficient.new.counts c.add_coefficient.new.squares) k below) _ _ within
           (ap (λ (l : ℤ). coarser_level l c.weight_in_scan-weight.result from scale intra) held ∙ ap (λ (w : ℕ). coarser_level pair.level w from scale intra) weight)
           (ap (λ (l : ℤ). level_change l c.weight_in_scan-weight.result from scale intra) held ∙ ap (λ (w : ℕ). level_change pair.level w from scale intra) weight)
           (c.add_coefficient.ensures c.args.way (c.table_at-table.ensures.value c.args.way c.table_number-first.ensures.value c.table_number-later.ensures.value) k below) (c.loop-pair.invariant.each k below);

@@ -61,7 +61,7 @@ loop-fault-preserved g c =
     let packet = take 188 c.fill.new.self in
     let size : length packet ≡ 188 = length-take-le 188 c.fill.new.self c.in-Some.ensures.some.0 in
     let every = ends_every was.seen packet c.loop-fault.n c.loop-fault.walk c.in-Some.packet.now was.count size c.in-Some.ensures.some.1 was.between
-    (Ok c.in-Ok-None.field-0) (λ (file : List ℕ). IsBetween file (c.loop-fault.n + 1) c.take-taken.new.self × (c.take-taken.new.self.program ≡ c.loop-fault.walk.program)) c.in-Ok-None.ensures in
+    (Ok c.in-Ok-None.field-0) (λ (file : List ℕ). IsBetween file (c.loop-fault.n + 1) c.take-taken.new.self × (c.take-taken.new.self.program ≡ c.loop-fault.walk.program)) c.in-Ok-None.ensures.ends in
     let on : (more : List ℕ) → IsBetween ((was.seen ++ packet) ++ more) (c.loop-fault.n + 1) c.take-taken.new.self × (c.take-taken.new.self.program ≡ c.loop-fault.walk.program) =
     λ more. ends_on ((was.seen ++ packet) ++ more) c.loop-fault.walk.program c.in-Ok-None.field-0 _ (every more) c.in-Ok-None.field-0-is in
     record {
@@ -81,7 +81,7 @@ returns-in-Ok-Some-clause-map g c =
     let packet = take 188 c.fill.new.self in
     let size : length packet ≡ 188 = length-take-le 188 c.fill.new.self c.in-Some.ensures.some.0 in
     let every = ends_every was.seen packet c.loop-fault.n c.loop-fault.walk c.in-Some.packet.now was.count size c.in-Some.ensures.some.1 was.between
-    (Ok c.in-Ok-Some.field-0) (λ (file : List ℕ). IsBetween file (c.loop-fault.n + 1) c.take-taken.new.self × (c.take-taken.new.self.program ≡ c.loop-fault.walk.program)) c.in-Ok-Some.ensures in
+    (Ok c.in-Ok-Some.field-0) (λ (file : List ℕ). IsBetween file (c.loop-fault.n + 1) c.take-taken.new.self × (c.take-taken.new.self.program ≡ c.loop-fault.walk.program)) c.in-Ok-Some.ensures.ends in
     inl (record {
       seen = was.seen ++ packet;
       passes = rw c.pass.ensures (passes_packet _ _ _ _ was.seen c.fill.new.self (passes_filled _ _ _ _ _ _ was.seen c.loop-fault.buffer c.fill.new.self was.passes c.in-Ok.ensures.passes));
@@ -98,7 +98,7 @@ returns-in-Err-taken-clause-refused g c =
     let packet = take 188 c.fill.new.self in
     let size : length packet ≡ 188 = length-take-le 188 c.fill.new.self c.in-Some.ensures.some.0 in
     let every = ends_every was.seen packet c.loop-fault.n c.loop-fault.walk c.in-Some.packet.now was.count size c.in-Some.ensures.some.1 was.between
-    (Err c.in-Err-taken.fault) (λ (file : List ℕ). IsBetween file (c.loop-fault.n + 1) c.take-taken.new.self × (c.take-taken.new.self.program ≡ c.loop-fault.walk.program)) c.in-Err-taken.ensures in
+    (Err c.in-Err-taken.fault) (λ (file : List ℕ). IsBetween file (c.loop-fault.n + 1) c.take-taken.new.self × (c.take-taken.new.self.program ≡ c.loop-fault.walk.program)) c.in-Err-taken.ensures.ends in
     inl (record {
       seen = was.seen ++ packet;
       passes = rw c.pass.ensures (passes_packet _ _ _ _ was.seen c.fill.new.self (passes_filled _ _ _ _ _ _ was.seen c.loop-fault.buffer c.fill.new.self was.passes c.in-Ok.ensures.passes));

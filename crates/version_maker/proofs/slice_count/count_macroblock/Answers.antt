@@ -1,10 +1,13 @@
-use Rattle.std.proofs.Common.{◌≡◌, ◌<◌, ◌≤◌, ◌∙◌, ℕ, length, get_or, sym, subst, arith}
+use Rattle.std.proofs.Common.{◌≡◌, ◌<◌, ◌∙◌, ℕ, length, get_or, sym, subst, arith}
 use Rattle.std.proofs.lemmas.List.{get_or_default, length-set}
 use Rattle.requantiser.specs.declared.tally.Tally.{Tally}
 use Rattle.requantiser.proofs.Tallies.{one_more_went, others_stay}
 use Rattle.version_maker.specs.declared.slice_count.VersionCount.{VersionCount}
 use Rattle.version_maker.specs.Private.Counts.{CanCount, IsCountedMacroblock}
 use Rattle.version_maker.proofs.slice_count.count_macroblock.Goals as goal
+
+pub returns-then-count-eq0 : goal.returns-then-count-eq0
+returns-then-count-eq0 c = λ k d below. absurd (omega (arith, below, c.if-count-eq0.true))
 
 pub count_version-requires-clause-can : goal.count_version-requires-clause-can
 count_version-requires-clause-can c =

@@ -1,18 +1,26 @@
-use Rattle.std.proofs.Common.{◌∙◌, refl, sym, arith}
+use Rattle.std.proofs.Common.{◌≡◌, ◌∙◌, ℕ, None, refl, sym, ap, arith}
+use Rattle.std.specs.Prelude.{◌==◌, false, not}
+use Rattle.macroblock_writer.specs.Parts.{head_length}
+use Rattle.requantiser.specs.declared.head.Head.{Head}
 use Rattle.requantiser.specs.Steps.{Step}
+use Rattle.requantiser.specs.Tallies.{kind_under}
 use Rattle.version_maker.proofs.OutlineCounts.{outline-counted}
 use Rattle.version_maker.proofs.slice_count.count_version.Goals as goal
 
-pub coded_head-head-requires-clause-stays : goal.coded_head-head-requires-clause-stays
-coded_head-head-requires-clause-stays c = sym c.is_emptied.ensures ∙ c.if-is_emptied.false
-
-pub returns : goal.returns
-returns c =
+pub returns-then-stays : goal.returns-then-stays
+returns-then-stays c =
     let coding = c.args.coding.now in
     let from = c.args.from.now in
-    let head = c.coded_head-head.result in
-    let outlined = c.coded_head-head.ensures c.args.seq.now coding c.args.inner c.args.lent.now c.requires.spelled c.requires.can.tallied in
-    let step : Step = record { from = from; made = outlined.made; behind = c.coded_head-head.new.state; distortion = c.args.tally.distortion } in
+    let head : Head = c.stayed_head-head.result in
+    let state = c.args.count.now.state in
+    let outlined = c.stayed_head-head.ensures.outlined c.args.seq.now coding c.args.inner state c.args.lent.now (sym c.stays.ensures ∙ c.if-stays.true)
+    c.requires.spelled c.requires.can.tallied in
+    let step : Step = record { from = from; made = outlined.made; behind = state; distortion = c.args.tally.now.distortion } in
+    let pattern : ℕ = head.pattern in
+    let lengths : head_length coding head.skipped_before (kind_under from.kind head) head.code head.pattern
+    ≡ head_length coding from.skipped_before (record from.kind { quant = false; pattern = not (pattern == 0) }) None pattern =
+    ap (λ (h : Head). head_length coding h.skipped_before (kind_under from.kind h) h.code h.pattern) c.stayed_head-head.ensures.value
+    ∙ ap (λ (n : ℕ). head_length coding from.skipped_before (record from.kind { quant = false; pattern = not (n == 0) }) None n) (sym (ap (λ (h : Head). h.pattern) c.stayed_head-head.ensures.value)) in
     record {
       step = step;
       same = refl;
@@ -22,11 +30,12 @@ returns c =
         bits = omega (
           arith,
           c.from.ensures,
-          c.head_in_version.ensures.value coding from.kind c.requires.kinds,
+          c.at.ensures.value coding from c.args.shared c.requires.stayed,
+          lengths,
           outline-counted coding from head c.args.shared c.requires.spelled c.requires.shared,
           outlined.bits,
         );
-        few = omega (arith, c.from.ensures, c.head_in_version.ensures.few, c.requires.few, c.requires.can.tallied.few);
+        few = omega (arith, c.from.ensures, c.at.ensures.few, c.requires.can.tallied.few);
         distortion = refl;
         small = omega (arith, c.requires.can.tallied.small);
       };

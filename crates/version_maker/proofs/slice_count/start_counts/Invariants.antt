@@ -1,4 +1,4 @@
-use Rattle.std.proofs.Common.{◌≡◌, ◌<◌, ◌≤◌, ℕ, length, get_or}
+use Rattle.std.proofs.Common.{◌≡◌, ◌<◌, ℕ, length, get_or}
 use Rattle.std.specs.Prelude.{slice_index}
 use Rattle.version_maker.specs.declared.slice_count.VersionCount.{VersionCount}
 use Rattle.version_maker.specs.Private.Counts.{IsStartCount}

@@ -9,6 +9,9 @@ use Rattle.requantiser.proofs.counts.Counts.add_sizes.Goals as goal
 pub add_size-requires-clause-k : goal.add_size-requires-clause-k
 add_size-requires-clause-k c = omega (arith, c.loop-k-test.true, c.args.rung.now.few)
 
+pub add_size-requires-clause-row : goal.add_size-requires-clause-row
+add_size-requires-clause-row c = c.args.rung.now.placed c.loop-k.k (omega (arith, c.loop-k-test.true, c.args.rung.now.few))
+
 pub add_size-requires-clause-next : goal.add_size-requires-clause-next
 add_size-requires-clause-next c =
     let k : ℕ = c.loop-k.k in

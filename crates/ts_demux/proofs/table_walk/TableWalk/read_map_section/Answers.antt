@@ -7,6 +7,7 @@ use Rattle.ts_demux.specs.Faults.{of_section}
 use Rattle.ts_demux.specs.Tables.{refuse, StopsFirst, IsBadPmt}
 use Rattle.ts_demux.specs.Private.SectionReader.{ReadsNext}
 use Rattle.ts_demux.proofs.WalkSteps.{map_there, map_all_read, map_refuses, map_read}
+use Rattle.ts_demux.proofs.KnownPid.{map_section_knows}
 use Rattle.ts_demux.proofs.table_walk.TableWalk.read_map_section.Goals as goal
 
 pub returns-in_default-clause-read : goal.returns-in_default-clause-read
@@ -32,3 +33,6 @@ returns-clause-read c file within =
     let reads_it = subst (λ (found : Result (ArrayVec ℕ) SectionFault). ReadsNext
     (pid_pieces file within.pid within.from (c.args.n + 1)) within.waiting (Some found) c.next.new.self) c.in-Ok.is reads in
     map_read file c.args.n c.args.self.now c.in-Ok.section c.next.new.self c.read_program_map.result within reads_it c.read_program_map.ensures
+
+pub returns-clause-known : goal.returns-clause-known
+returns-clause-known c file within = map_section_knows file c.args.n c.args.self.now c.read_program_map.result within

@@ -8,6 +8,7 @@ use Rattle.ts_demux.specs.Tables.{pat_pid, refuse, StopsFirst, IsSection, IsBadP
 use Rattle.ts_demux.specs.Private.SectionReader.{ReadsNext}
 use Rattle.ts_demux.specs.Private.TableWalk.{is_on_pat_pid}
 use Rattle.ts_demux.proofs.WalkSteps.{pat_there, pat_all_read, pat_refuses, pat_goes_on, pat_map_read}
+use Rattle.ts_demux.proofs.KnownPid.{pat_section_knows}
 use Rattle.ts_demux.proofs.table_walk.TableWalk.read_pat_section.Goals as goal
 
 pub returns-in_default-clause-read : goal.returns-in_default-clause-read
@@ -56,3 +57,8 @@ returns-clause-read c file within =
     let on : is_on_pat_pid c.args.self.now.known ≡ true = sym c.is_on_pat_pid.ensures ∙ c.if-not-is_on_pat_pid.false in
     pat_map_read file c.args.n c.args.self.now c.in-Ok.section c.in-Ok-known_behind.known c.next.new.self c.read_program_map.result within
     reads_it c.in-Ok-known_behind.ensures on c.read_program_map.ensures
+
+pub returns-clause-known : goal.returns-clause-known
+returns-clause-known c file within =
+    pat_section_knows file c.args.n c.args.self.now c.in-Ok.section.items c.in-Ok-known_behind.known c.read_program_map.result within
+    (sym c.is_on_pat_pid.ensures ∙ c.if-not-is_on_pat_pid.false) c.in-Ok-known_behind.ensures.1

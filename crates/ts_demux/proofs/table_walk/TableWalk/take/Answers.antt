@@ -15,8 +15,8 @@ no_test pid other = by_test (pid == 0) refl
 yes_test : (pid : ℕ) → pid ≡ 0 → (pid == 0) ≡ true
 yes_test pid same = grind (arith, nat_tests)
 
-pub returns-in_default : goal.returns-in_default
-returns-in_default c file within bytes_are between =
+pub returns-in_default-clause-ends : goal.returns-in_default-clause-ends
+returns-in_default-clause-ends c file within bytes_are between =
     subst (λ at. StopsFirst file c.args.self.now.program (refuse (Sync at))) (sym c.place_of.ensures)
     (sync_refuses file c.args.n c.args.self.now c.args.bytes.now within bytes_are c.in_default.ensures.sync.1 between)
 
@@ -28,8 +28,8 @@ pub take_map_packet-requires-clause-of_pid : goal.take_map_packet-requires-claus
 take_map_packet-requires-clause-of_pid c file bytes_are = on_map file c.args.n c.in-Ok.pid c.args.bytes.now c.args.self.now.known bytes_are
     c.in-Ok.ensures.pid.1 c.if-pid-eq-PAT_PID.false (sym c.is_map_on.ensures ∙ c.if-is_map_on.true)
 
-pub returns : goal.returns
-returns c file within bytes_are between = (
+pub returns-clause-ends : goal.returns-clause-ends
+returns-clause-ends c file within bytes_are between = (
   other_goes_on file c.args.n c.args.self.now c.args.bytes.now bytes_are c.in-Ok.ensures.pid.0
       (is_of file c.args.n c.in-Ok.pid pat_pid c.args.bytes.now false bytes_are c.in-Ok.ensures.pid.1 (no_test c.in-Ok.pid c.if-pid-eq-PAT_PID.false))
       (not_on_map file c.args.n c.in-Ok.pid c.args.bytes.now c.args.self.now.known bytes_are c.in-Ok.ensures.pid.1

@@ -1,0 +1,9 @@
+pub mod Asked
+pub mod FitSteps
+pub mod Lines
+pub mod Lists
+pub mod OneList
+pub mod RunsIn
+pub mod Stopped
+pub mod OneStatus
+pub mod Reports

@@ -1,0 +1,4 @@
+pub mod FitCommand
+pub mod ListText
+pub mod Private
+pub mod Report

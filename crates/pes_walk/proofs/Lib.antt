@@ -1,0 +1,5 @@
+pub mod Data
+pub mod Examples
+pub mod Fronts
+pub mod Headers
+pub mod Walking

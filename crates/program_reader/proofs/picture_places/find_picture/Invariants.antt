@@ -1,6 +1,0 @@
-use Rattle.std.proofs.Common.{◌≡◌, ℕ, false, ◌<◌, ◌≤◌}
-use Rattle.program_reader.specs.PictureTimes.{begins_picture}
-use Rattle.program_reader.proofs.picture_places.find_picture.Given as goal
-
-abbrev pub invariant-loop-at : goal.invariant-loop-at
-invariant-loop-at l = (k : ℕ) → l.from ≤ k → k < l.at → begins_picture l.es k ≡ false

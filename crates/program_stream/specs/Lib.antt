@@ -1,0 +1,5 @@
+pub mod Elements
+pub mod Streams
+pub mod Split
+pub mod Forms
+pub mod Private

@@ -1,0 +1,5 @@
+pub mod Shorter
+pub mod OneVerdict
+pub mod GreatestSaid
+pub mod Slots
+mod Examples

@@ -1,0 +1,87 @@
+//! What is said of the slots in which a job fits, and of those in which it misses.
+
+use crate::amounts::{Milliseconds, Rate};
+use crate::line::{End, list, number, text};
+use dual_bounds::constants::MARGIN_TICKS;
+use serde_json::Value;
+use std::alloc::{AllocError, Global};
+use version_table::limits::{SLOT_LEAST, SLOT_MOST};
+
+/// The longest slot of a list in which a job fits, with its rate, and of each slot that misses by how much.
+pub(crate) fn fitting(alloc: Global, end: &End<'_>, line: &Value) -> Result<String, AllocError> {
+    let slot = number(line, "fit");
+    let misses = misses(alloc, line)?;
+    format!(in alloc;
+        "{job}: it fits in slots of {slot} ticks, {rate} Mbit/s, and in no longer ones of {list}{misses}",
+        job = end.word(1),
+        rate = Rate { slot },
+        list = end.word(2)
+    )
+}
+
+/// That a job fits in no slot of a list, and by how much it misses in each.
+pub(crate) fn no_fit(alloc: Global, end: &End<'_>, line: &Value) -> Result<String, AllocError> {
+    let misses = misses(alloc, line)?;
+    format!(in alloc;
+        "{job}: it fits in no slot of {list}{misses}; shorter slots, more and greater numbers in `coarser`, or a later `start` may help",
+        job = end.word(1),
+        list = end.word(2)
+    )
+}
+
+/// Why a list of slots is refused.
+pub(crate) fn refused_list(
+    alloc: Global,
+    end: &End<'_>,
+    line: &Value,
+) -> Result<String, AllocError> {
+    let name = end.word(2);
+    match number(line, "line") {
+        0 => format!(in alloc;
+            "{name}: its text is longer than a list of slots may be, 1,024 bytes (docs/JOB.md)"
+        ),
+        number => format!(in alloc;
+            "{name}: line {number} can't stand in a list of slots: it has 1 to 64 lines, each a whole number from {SLOT_LEAST} to {SLOT_MOST} and \
+             greater than the one before (docs/JOB.md)"
+        ),
+    }
+}
+
+/// What is said of each slot of a line that isn't scheduled, behind a semicolon each.
+fn misses(alloc: Global, line: &Value) -> Result<String, AllocError> {
+    let mut said = String::new(alloc);
+    for slot in list(line, "slots") {
+        let miss = miss(alloc, slot)?;
+        said.push_str(miss.as_str())?;
+    }
+    Ok(said)
+}
+
+/// What is said of one slot; nothing where it is scheduled.
+fn miss(alloc: Global, said: &Value) -> Result<String, AllocError> {
+    let slot = number(said, "slot");
+    let rate = Rate { slot };
+    match text(said, "verdict") {
+        "missed" => format!(in alloc;
+            "; in slots of {slot} ticks, {rate} Mbit/s, unit {unit} of stream {stream} comes {late} ms late at least",
+            unit = number(said, "unit"),
+            stream = number(said, "stream"),
+            late = lateness(slot, said)
+        ),
+        "limit" => format!(in alloc;
+            "; of slots of {slot} ticks, {rate} Mbit/s, no stream has as many as its times want"
+        ),
+        _ => Ok(String::new(alloc)),
+    }
+}
+
+/// By how much the packet of a miss comes late at least: it isn't there a margin behind the end of its packet slot.
+fn lateness(slot: u64, said: &Value) -> Milliseconds {
+    let end = number(said, "packet_slot")
+        .saturating_add(1)
+        .saturating_mul(slot)
+        .saturating_add(MARGIN_TICKS);
+    Milliseconds {
+        ticks: end.saturating_sub(number(said, "due")),
+    }
+}

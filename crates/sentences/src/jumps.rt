@@ -1,0 +1,73 @@
+//! What is said where the stream of a run lasts longer than its pictures: the times of a source jump forward.
+
+use crate::amounts::Seconds;
+use crate::first_header::first_header;
+use crate::job_again::file_of;
+use crate::line::{End, list, number};
+use job_report::limits::START_DEFAULT;
+use serde_json::Value;
+use std::alloc::AllocError;
+use std::rt::Files;
+use stream_constants::clock::TICKS_PER_SECOND;
+use toml::Table;
+
+/// How long OUT may last beyond its pictures, in ticks: a second, and one for audio behind the last picture and the end of a period.
+const BEYOND_MOST: u64 = 2 * TICKS_PER_SECOND;
+
+/// That OUT lasts longer than the pictures of any of its programs; none where it doesn't.
+pub(crate) fn long_waits<R: Files + AllocGlobal>(
+    rt: &R,
+    end: &End<'_>,
+    line: &Value,
+    table: &Table,
+) -> Result<Option<String>, AllocError> {
+    let lasting = number(line, "slots").saturating_mul(integer(table, "slot", 0));
+    let start = integer(table, "start", START_DEFAULT);
+    let shown = longest_program(rt, line, table);
+    if lasting.saturating_sub(start).saturating_sub(shown) < BEYOND_MOST {
+        return Ok(None);
+    }
+    let out = end.word(2);
+    let said = format!(in rt.alloc();
+        "{out} lasts {lasting} s, though no program has pictures for more than {shown} s: where the times of a source jump forward, or \
+         only audio goes on, {out} has null packets",
+        lasting = Seconds { ticks: lasting },
+        shown = Seconds { ticks: shown }
+    )?;
+    Ok(Some(said))
+}
+
+/// How long the pictures of a program last at most, of the program that has most, in ticks.
+fn longest_program<R: Files>(rt: &R, line: &Value, table: &Table) -> u64 {
+    let mut longest = 0u64;
+    for (at, program) in list(line, "programs").iter().enumerate() {
+        let rate = match file_of(table, at as u64).and_then(|file| first_header(rt, file)) {
+            Some(header) => header.rate,
+            None => 0,
+        };
+        let pictures = list(program, "choice").len() as u64;
+        longest = longest.max(pictures.saturating_mul(picture_ticks(rate)));
+    }
+    longest
+}
+
+/// Ticks of a picture at most, by the frame_rate_code of its sequence (13818-2, Table 6-4): at codes 4 and 5 pictures of 24 a second
+/// may be shown with repeated fields.
+fn picture_ticks(rate: u8) -> u64 {
+    match rate {
+        2 | 5 => TICKS_PER_SECOND / 24,
+        3 => TICKS_PER_SECOND / 25,
+        _ => TICKS_PER_SECOND * 1_001 / 24_000,
+    }
+}
+
+/// A whole number of a job's text; another one where it has none of that name.
+fn integer(table: &Table, name: &str, other: u64) -> u64 {
+    match table.get(name) {
+        Some(value) => match value.as_integer() {
+            Some(number) => number.max(0) as u64,
+            None => other,
+        },
+        None => other,
+    }
+}

@@ -1,0 +1,52 @@
+//! What is said where not even the smallest versions are scheduled.
+
+use crate::amounts::Seconds;
+use crate::buffers::small_buffers;
+use crate::line::{End, number};
+use crate::sources::CODE;
+use serde_json::Value;
+use std::alloc::{AllocError, Global};
+use std::rt::Files;
+
+/// What to try with a table.
+const OF_A_TABLE: &str =
+    "a shorter slot, smaller versions or later times may help, and `remux impossible TABLE` tells of a table whether any \
+     versions could be";
+
+/// Which packet can't be in time, and what may help.
+pub(crate) fn unschedulable<R: Files + AllocGlobal>(
+    rt: &R,
+    end: &End<'_>,
+    line: &Value,
+) -> Result<String, AllocError> {
+    let alloc = rt.alloc();
+    let help = if end.word(0) == "plan" {
+        String::from_str(alloc, OF_A_TABLE)?
+    } else {
+        help_of_job(rt, end)?
+    };
+    format!(in alloc;
+        "{text}: not even the smallest versions are scheduled: unit {unit} of stream {stream} (counted from 0, over all programs), due at \
+         {due} s, tick {ticks}, misses in slot {slot}; {help}",
+        text = end.word(1),
+        unit = number(line, "unit"),
+        stream = number(line, "stream"),
+        due = Seconds {
+            ticks: number(line, "due")
+        },
+        ticks = number(line, "due"),
+        slot = number(line, "slot")
+    )
+}
+
+/// What most often causes it in a job, and what to try in which order.
+fn help_of_job<R: Files + AllocGlobal>(rt: &R, end: &End<'_>) -> Result<String, AllocError> {
+    let small = small_buffers(rt, end)?;
+    format!(in rt.alloc();
+        "mostly its source states a smaller buffer than its pictures need, as plain ffmpeg does, or the channel is too slow{small}. \
+         Try in this order: a smaller `slot`; more and greater numbers in `coarser`, up to 1792; a later `start`, up to 54000000; fewer programs \
+         or audio streams. Where slot 1016, start 54000000 and a version of 1792 miss too, code the source anew with a rate and a buffer: \
+         `ffmpeg -i FILE {CODE}`. Whether any versions of a program could be is told by `remux probe FILE PROGRAM TABLE` and, with the \
+         job's `slot` in TABLE, `remux impossible TABLE`"
+    )
+}

@@ -1,0 +1,149 @@
+//! What is said of a program that is refused.
+
+use crate::amounts::Seconds;
+use crate::clock::ticks_before;
+use crate::job_again::{file_of, job_table};
+use crate::kinds::{Help, Place, kind_of};
+use crate::limits::program_limits;
+use crate::line::{End, number, text};
+use serde_json::Value;
+use std::alloc::{AllocError, Global};
+use std::rt::Files;
+use stream_constants::packets::PACKET_BYTES;
+
+/// The commands of ffmpeg that code video and audio anew.
+pub(crate) const CODE: &str =
+    "-c:v mpeg2video -b:v R -maxrate R -bufsize 1835008 -c:a mp2 -f mpegts NEW";
+
+/// Which program of which file is refused, for what, where, and what helps.
+pub(crate) fn refused_source<R: Files + AllocGlobal>(
+    rt: &R,
+    end: &End<'_>,
+    line: &Value,
+) -> Result<String, AllocError> {
+    if end.word(0) == "probe" {
+        let of = format!(in rt.alloc(); "program {} of {}", end.word(2), end.word(1))?;
+        return refused_in(rt, of.as_str(), end.word(1), line);
+    }
+    match job_table(rt, end.word(1)) {
+        Some(table) => refused_of_job(rt, end, file_of(&table, number(line, "program")), line),
+        None => refused_of_job(rt, end, None, line),
+    }
+}
+
+/// Which program of a job is refused.
+fn refused_of_job<R: Files + AllocGlobal>(
+    rt: &R,
+    end: &End<'_>,
+    file: Option<&str>,
+    line: &Value,
+) -> Result<String, AllocError> {
+    let file = file.unwrap_or("FILE");
+    let of = format!(in rt.alloc();
+        "{file}, program {number} (from 0) of {job},",
+        number = number(line, "program"),
+        job = end.word(1)
+    )?;
+    refused_in(rt, of.as_str(), file, line)
+}
+
+/// What is wrong with a file, where, and what helps.
+fn refused_in<R: Files + AllocGlobal>(
+    rt: &R,
+    of: &str,
+    file: &str,
+    line: &Value,
+) -> Result<String, AllocError> {
+    let alloc = rt.alloc();
+    let name = text(line, "kind");
+    let at = number(line, "at");
+    match kind_of(name) {
+        None => { format!(in alloc; "{of} is refused: {name} at byte {at} (docs/REFUSALS.md)") }
+        Some(kind) => {
+            let place = place(rt, kind.place, file, at)?;
+            let help = help(alloc, kind.help, file, at)?;
+            format!(in alloc;
+                "{of} is refused: {what} ({name}{place}); {help}",
+                what = kind.what
+            )
+        }
+    }
+}
+
+/// Where it is wrong: the byte, and in a file also the packet and how long after the file's first clock it comes.
+fn place<R: Files + AllocGlobal>(
+    rt: &R,
+    place: Place,
+    file: &str,
+    at: u64,
+) -> Result<String, AllocError> {
+    let alloc = rt.alloc();
+    match place {
+        Place::Nowhere => Ok(String::new(alloc)),
+        Place::Video => format!(in alloc; " at byte {at} of its video"),
+        Place::Audio => format!(in alloc; " at byte {at} of an audio stream"),
+        Place::Stream => format!(in alloc; " at byte {at} of its video or an audio stream"),
+        Place::File => {
+            let packet = at / PACKET_BYTES as u64;
+            match ticks_before(rt, file, at) {
+                Some(ticks) => format!(in alloc;
+                    " at byte {at}, packet {packet} from 0, {time} s behind the file's first clock",
+                    time = Seconds { ticks }
+                ),
+                None => format!(in alloc; " at byte {at}, packet {packet} from 0"),
+            }
+        }
+    }
+}
+
+/// What helps, with the command where there is one.
+fn help(alloc: Global, help: Help, file: &str, at: u64) -> Result<String, AllocError> {
+    match help {
+        Help::Rewrite => format!(in alloc;
+            "write it anew as packets of 188 bytes: `ffmpeg -i {file} -map 0 -c copy -f mpegts NEW`"
+        ),
+        Help::Splice => cut(alloc, file, at, at),
+        Help::Cut => cut_loss(alloc, file, at, at),
+        Help::CutOut => cut_loss(alloc, file, at, at.saturating_add(PACKET_BYTES as u64)),
+        Help::Number => format!(in alloc;
+            "`program` of a job and PROGRAM of `probe` are the program_number in the file: `ffprobe {file}` shows each as \"Program\""
+        ),
+        Help::Recode => format!(in alloc; "code it anew: `ffmpeg -i {file} {CODE}`"),
+        Help::RecodeAudio => format!(in alloc;
+            "name its PID in `drop` of the job, or code it anew: `ffmpeg -i {file} -map 0 -c:v copy -c:a mp2 -af aresample=async=1 -f mpegts NEW`"
+        ),
+        Help::Times => format!(in alloc;
+            "let its times be made anew: `ffmpeg -fflags +genpts -i {file} -map 0 -c copy -f mpegts NEW`, and for audio \
+             `-c:a mp2 -af aresample=async=1`"
+        ),
+        Help::Shorter => program_limits(alloc),
+        _ => String::from_str(alloc, advice(help)),
+    }
+}
+
+/// What helps without a command.
+fn advice(help: Help) -> &'static str {
+    match help {
+        Help::OtherFile => "is it the right file, and a transport stream?",
+        Help::Descramble => "descramble it first",
+        Help::Drop => "name audio streams in `drop` of the job",
+        Help::Broken =>
+            "the recording is broken there, or cut: take another, or cut it before the place",
+        Help::CutFrame => "cut it at a whole frame",
+        _ => "docs/REFUSALS.md tells what helps",
+    }
+}
+
+/// How to cut a file where packets are lost or wrong: what is gone can't be copied.
+fn cut_loss(alloc: Global, file: &str, at: u64, behind: u64) -> Result<String, AllocError> {
+    let cut = cut(alloc, file, at, behind)?;
+    format!(in alloc; "copying doesn't help: {cut}")
+}
+
+/// How to cut a file before a place and behind it.
+fn cut(alloc: Global, file: &str, at: u64, behind: u64) -> Result<String, AllocError> {
+    let first = behind.saturating_add(1);
+    format!(in alloc;
+        "cut there, `head -c {at} {file} > FRONT` is what stands before it, `tail -c +{first} {file} > REST` what comes behind"
+    )
+}

@@ -1,0 +1,197 @@
+-- What is read of an audio stream serves the judge.
+use Rattle.std.proofs.Common.{◌≡◌, ℕ, ◌+◌, ◌*◌, ◌^◌, ◌<◌, ◌≤◌, Bool, true, false, cond, List, [], ◌∷◌, ◌++◌, length, map, take, drop, get_or, replicate, All, ℤ, pos, neg_ℤ, ◌+ℤ◌, ◌-ℤ◌, ◌≤ℤ◌, refl, sym, ap, ◌∙◌, subst, arith}
+use Rattle.std.specs.List.{sum_by}
+use Rattle.std.specs.List.Sorted.{IsNonDecreasing, IsStrictlyIncreasing}
+use Rattle.std.proofs.lemmas.Int.{ints}
+use Rattle.std.proofs.lemmas.List.{length-append, length-drop, length-map}
+use Rattle.std.proofs.lemmas.List.Elements.{All-head, All-tail}
+use Rattle.std.proofs.lemmas.List.Sums.{sum_by-cons}
+use Rattle.audio_frames.specs.declared.frame.Frame.{Frame}
+use Rattle.pes_units.specs.PesHeader.{header_length}
+use Rattle.pes_units.specs.PesPackets.{is_dropped}
+use Rattle.tstd_model.specs.declared.decoder_input.Arrival.{Arrival}
+use Rattle.tstd_model.specs.declared.decoder_input.BufferKind.TheVariants.{Audio}
+use Rattle.tstd_model.specs.declared.decoder_input.PacketPart.{PacketPart}
+use Rattle.tstd_model.specs.declared.decoder_input.PacketPart.TheVariants.{Overhead}
+use Rattle.tstd_model.specs.declared.decoder_input.Removal.{Removal}
+use Rattle.tstd_model.specs.PacketBytes.{HasHeaderWithin}
+use Rattle.ts_demux.specs.declared.demuxed.AudioStream.{AudioStream}
+use Rattle.ts_demux.specs.declared.demuxed.PesUnit.{PesUnit}
+use Rattle.ts_demux.specs.declared.pid_places.Place.{Place}
+use Rattle.stream_audit.specs.declared.audio_read.ReadAudio.{ReadAudio}
+use Rattle.stream_audit.specs.declared.audited_stream.AuditedStream.{AuditedStream}
+use Rattle.stream_audit.specs.declared.frame_removals.FrameClock.{FrameClock}
+use Rattle.stream_audit.specs.declared.kept_units.KeptUnits.{KeptUnits}
+use Rattle.stream_audit.specs.declared.taken_pes.PlacedPes.{PlacedPes}
+use Rattle.stream_audit.specs.Findings.{CanBeJudged}
+use Rattle.stream_audit.specs.PesBytes.{arrivals_of, bytes_before, elementary_bytes, parts_of_packets, payload_of, placed_at, placed_from, taken}
+use Rattle.stream_audit.specs.Removals.{HasFrames, first_due, first_time, frame_due, frame_removals, header_bytes_in, removed_at}
+use Rattle.stream_audit.specs.Streams.{IsAudioOf}
+use Rattle.stream_audit.specs.Private.AudioRead.{IsAudioRead}
+use Rattle.stream_audit.specs.Private.FrameRemovals.{AreChained, Climb, FallsWithin, frame_removal}
+use Rattle.stream_audit.specs.Private.PesStarts.{IsTime}
+use Rattle.stream_audit.proofs.AudioLaws.{frames_rise, places_climb, placed_count, spans_chained, spans_within, taken_front}
+use Rattle.stream_audit.proofs.AudioLemmas.{HasPayload, bytes_in, taken_bytes, taken_count, taken_payloads}
+use Rattle.stream_audit.proofs.FrameTimes.{frames_few}
+
+-- ---- headers are bytes of their packets
+
+headers_most : (at : ℕ) (packets : List PesUnit) → All HasPayload packets → sum_by (λ packet. packet.header) (placed_from at packets) ≤ bytes_in packets
+headers_most at [] all = omega arith
+headers_most at (packet ∷ packets) all =
+    let rest = headers_most (at + length (payload_of packet)) packets (All-tail HasPayload packet packets all) in
+    let some : HasPayload packet = All-head HasPayload packet packets all in
+    let size = length-drop (header_length packet.bytes) packet.bytes in
+    omega (
+      arith,
+      rest,
+      some,
+      size,
+      sum_by-cons (λ (p : PesUnit). length p.bytes) packet packets,
+      sum_by-cons (λ (p : PlacedPes). p.header) (placed_at at packet) (placed_from (at + length (payload_of packet)) packets),
+    )
+
+taken_in : (video : Bool) (packets : List PesUnit) → bytes_in (taken video packets) ≤ bytes_in packets
+taken_in video [] = omega arith
+taken_in video (p ∷ []) = by_test (is_dropped video p.bytes)
+  where
+    by_test : (dropped : Bool) → bytes_in (cond dropped [] (p ∷ [])) ≤ bytes_in (p ∷ [])
+    by_test true = omega arith
+    by_test false = omega arith
+taken_in video (p ∷ q ∷ ps) =
+    let rest = taken_in video (q ∷ ps) in
+    omega (arith, rest, sum_by-cons (λ (u : PesUnit). length u.bytes) p (taken video (q ∷ ps)), sum_by-cons (λ (u : PesUnit). length u.bytes) p (q ∷ ps))
+
+-- ---- what is read
+
+module _ (first : ℕ) (stream : AudioStream) (read : ReadAudio) (is : IsAudioRead first stream read) (small : bytes_in stream.units < 2 ^ 31) where
+  size : length (elementary_bytes (taken false stream.units)) < 2147483648
+  size = let most = taken_bytes false stream.units in omega (arith, most, small)
+
+  within : All (λ frame. frame.at + frame.len ≤ length (elementary_bytes (taken false stream.units))) read.frames
+  within = spans_within 0 (drop 1 is.framed.frames_are.places) (length (elementary_bytes (taken false stream.units))) read.frames is.framed.frames_are.cover
+
+  pub read_chained : AreChained 0 read.frames
+  read_chained = spans_chained 0 (drop 1 is.framed.frames_are.places) (length (elementary_bytes (taken false stream.units))) read.frames is.framed.frames_are.cover
+
+  pub read_climb : (placed : List PlacedPes) → placed ≡ read.packets.items → Climb 0 placed
+  read_climb placed same = subst (Climb 0) (sym (same ∙ is.placed)) (places_climb 0 0 (taken false stream.units) (omega arith))
+
+  pub read_headers : (placed : List PlacedPes) → placed ≡ read.packets.items → sum_by (λ packet. packet.header) placed < 2147483648
+  read_headers placed same =
+      let most = headers_most 0 (taken false stream.units) (taken_payloads stream.units is.sound) in
+      let fewer = taken_in false stream.units in
+      let all : sum_by (λ (packet : PlacedPes). packet.header) placed ≡ sum_by (λ (packet : PlacedPes). packet.header) (placed_from 0 (taken false stream.units)) =
+      ap (sum_by (λ (packet : PlacedPes). packet.header)) (same ∙ is.placed) in
+      omega (arith, most, fewer, all, small)
+
+  pub read_lengths : (frames : List Frame) → frames ≡ read.frames → All (λ frame. frame.len < 2147483648) frames
+  read_lengths frames same = subst (All (λ (frame : Frame). frame.len < 2147483648)) (sym same) (λ k d less. (let end = within k d less in omega (arith, end, size)))
+
+  pub read_places : (frames : List Frame) → frames ≡ read.frames → All (λ frame. frame.at < 4611686018427387904) frames
+  read_places frames same = subst (All (λ (frame : Frame). frame.at < 4611686018427387904)) (sym same) (λ k d less. (let end = within k d less in omega (arith, end, size)))
+
+  pub read_few : length read.frames < 2147483648
+  read_few = let most = frames_few (elementary_bytes (taken false stream.units)) is.framed.starts read.frames is.framed.frames_are in omega (arith, most, size)
+
+-- ---- times
+
+fall_within : (time offset : ℤ) (due shown : ℕ) → offset ≡ pos due -ℤ pos shown → shown ≤ 2576980377600 → neg_ℤ (pos 9000000000000000000) ≤ℤ time →
+    (pos due +ℤ (time -ℤ pos shown)) ≤ℤ pos 4503599627370496 → FallsWithin (time +ℤ offset)
+fall_within time offset due shown is few least most = record { least = low time offset due shown is few least; most = high time offset due shown is most }
+  where
+    low : (time offset : ℤ) (due shown : ℕ) → offset ≡ pos due -ℤ pos shown → shown ≤ 2576980377600 → neg_ℤ (pos 9000000000000000000) ≤ℤ time →
+        neg_ℤ (pos 9223370937343148032) ≤ℤ (time +ℤ offset)
+    low time offset due shown is few least = omega (arith, ints, is, few, least)
+
+    high : (time offset : ℤ) (due shown : ℕ) → offset ≡ pos due -ℤ pos shown → (pos due +ℤ (time -ℤ pos shown)) ≤ℤ pos 4503599627370496 → (time +ℤ offset) ≤ℤ pos 4503599627370496
+    high time offset due shown is most = omega (arith, ints, is, most)
+
+pub frames_fall : (first : ℕ) (kept : KeptUnits) (stream : AudioStream) (read : ReadAudio) (lent : List Frame) (offset : ℤ) → IsAudioRead first stream read → first ≡ first_time kept →
+    first < 2 ^ 33 → lent ≡ read.frames → offset ≡ pos (first_due kept) -ℤ pos (300 * first_time kept) →
+    ((frames : List Frame) → HasFrames (first_time kept) (taken false stream.units) frames → All (λ frame. frame_due kept frame ≤ℤ pos (2 ^ 52)) frames) →
+    All (λ frame. FallsWithin (frame.time +ℤ offset)) lent
+frames_fall first kept stream read lent offset is first_is few same offset_is fit =
+    let dues = fit read.frames (subst (λ (n : ℕ). HasFrames n (taken false stream.units) read.frames) first_is is.framed) in
+    subst (All (λ (frame : Frame). FallsWithin (frame.time +ℤ offset))) (sym same) (λ k d less.
+    fall_within (get_or read.frames k d).time offset (first_due kept) (300 * first_time kept) offset_is (omega (arith, few, first_is)) (is.ticks k d less).least (dues k d less))
+
+-- a due by the clock's offset is the due by the first unit
+due_same : (time offset : ℤ) (due shown : ℕ) → offset ≡ pos due -ℤ pos shown → (time +ℤ offset) ≡ pos due +ℤ (time -ℤ pos shown)
+due_same time offset due shown is = omega (arith, ints, is)
+
+map_same : (f g : Frame → Removal) (frames : List Frame) → ((frame : Frame) → f frame ≡ g frame) → map f frames ≡ map g frames
+map_same f g [] same = refl
+map_same f g (frame ∷ frames) same = ap (λ (r : Removal). r ∷ map f frames) (same frame) ∙ ap (λ (rs : List Removal). g frame ∷ rs) (map_same f g frames same)
+
+pub removals_same : (zero : ℕ) (kept : KeptUnits) (clock : FrameClock) (packets : List PesUnit) (placed : List PlacedPes) (frames : List Frame) → clock.zero ≡ zero →
+    clock.base ≡ kept.base → clock.offset ≡ pos (first_due kept) -ℤ pos (300 * first_time kept) → placed ≡ placed_from 0 packets →
+    map (frame_removal clock placed) frames ≡ frame_removals zero kept packets frames
+removals_same zero kept clock packets placed frames zero_is base_is offset_is placed_is =
+    map_same (frame_removal clock placed) (λ frame. record {
+      due = removed_at zero kept.base (frame_due kept frame);
+      bytes = frame.len + header_bytes_in frame (placed_from 0 packets);
+    }) frames (λ frame.
+    (let due_is : removed_at clock.zero clock.base (frame.time +ℤ clock.offset) ≡ removed_at zero kept.base (frame_due kept frame) =
+    ap (λ (z : ℕ). removed_at z clock.base (frame.time +ℤ clock.offset)) zero_is
+    ∙ ap (λ (b : ℕ). removed_at zero b (frame.time +ℤ clock.offset)) base_is
+    ∙ ap (removed_at zero kept.base) (due_same frame.time clock.offset (first_due kept) (300 * first_time kept) offset_is) in
+    let bytes_are : frame.len + header_bytes_in frame placed ≡ frame.len + header_bytes_in frame (placed_from 0 packets) = ap (λ (ps : List PlacedPes). frame.len + header_bytes_in frame ps) placed_is in
+    rw (due_is, bytes_are) refl))
+
+-- ---- the stream
+
+pub front_few : (first : ℕ) (stream : AudioStream) (read : ReadAudio) (lent : List PesUnit) (count : ℕ) → IsAudioRead first stream read → lent ≡ stream.units → count ≡ length read.packets.items →
+    count ≤ length lent
+front_few first stream read lent count is same count_is =
+    let all = ap (λ (ps : List PlacedPes). length ps) is.placed in
+    let units = ap (λ (us : List PesUnit). length us) same in
+    let few = taken_count false stream.units in
+    let placed = placed_count 0 (taken false stream.units) in
+    omega (arith, all, units, few, placed, count_is)
+
+pub front_taken : (first : ℕ) (stream : AudioStream) (read : ReadAudio) (lent front : List PesUnit) (count : ℕ) → IsAudioRead first stream read → lent ≡ stream.units →
+    count ≡ length read.packets.items → front ≡ take count lent → front ≡ taken false stream.units
+front_taken first stream read lent front count is same count_is front_is =
+    let counted : count ≡ length (taken false stream.units) = count_is ∙ ap (λ (ps : List PlacedPes). length ps) is.placed ∙ placed_count 0 (taken false stream.units) in
+    front_is ∙ ap (take count) same ∙ ap (λ (n : ℕ). take n stream.units) counted ∙ sym (taken_front false stream.units)
+
+pub is_audio : (zero first bytes before : ℕ) (kept : KeptUnits) (places : List Place) (stream : AudioStream) (read : ReadAudio) (clock : FrameClock) (front : List PesUnit) (placed : List PlacedPes)
+    (frames : List Frame) (arrivals : List Arrival) (removals : List Removal) → IsAudioRead first stream read → first ≡ first_time kept → bytes ≡ read.bytes → before ≡ bytes_before places →
+    clock.zero ≡ zero → clock.base ≡ kept.base → clock.offset ≡ pos (first_due kept) -ℤ pos (300 * first_time kept) → front ≡ taken false stream.units →
+    placed ≡ read.packets.items → frames ≡ read.frames → arrivals ≡ arrivals_of places (replicate before Overhead ++ parts_of_packets (record { from = 0; to = 0 + bytes }) 0 front) →
+    removals ≡ map (frame_removal clock placed) frames →
+    IsAudioOf places zero kept stream (record { pid = stream.pid; kind = Audio; arrivals = arrivals; removals = removals })
+is_audio zero first bytes before kept places stream read clock front placed frames arrivals removals is first_is bytes_are before_is zero_is base_is offset_is front_is placed_is frames_are
+    arrivals_are removals_are = record {
+      frames = read.frames;
+      framed = subst (λ (n : ℕ). HasFrames n (taken false stream.units) read.frames) first_is is.framed;
+      stream_is = rw (
+        arrivals_are
+            ∙ ap (λ (n : ℕ). arrivals_of places (replicate n Overhead ++ parts_of_packets (record { from = 0; to = 0 + bytes }) 0 front)) before_is
+            ∙ ap (λ (n : ℕ). arrivals_of places (replicate (bytes_before places) Overhead ++ parts_of_packets (record { from = 0; to = n }) 0 front)) whole
+            ∙ ap (λ (ps : List PesUnit). arrivals_of places (replicate (bytes_before places) Overhead ++ parts_of_packets (record { from = 0; to = length (elementary_bytes (taken false stream.units)) }) 0 ps)) front_is,
+        removals_are ∙ ap (map (frame_removal clock placed)) frames_are
+            ∙ removals_same zero kept clock (taken false stream.units) placed read.frames zero_is base_is offset_is (placed_is ∙ is.placed),
+      ) refl;
+    }
+  where
+    whole : 0 + bytes ≡ length (elementary_bytes (taken false stream.units))
+    whole = let all : bytes ≡ length (elementary_bytes (taken false stream.units)) = bytes_are ∙ is.bytes in omega (arith, all)
+
+pub audio_judged : (first : ℕ) (places : List Place) (stream : AudioStream) (read : ReadAudio) (clock : FrameClock) (placed : List PlacedPes) (frames : List Frame) (arrivals : List Arrival)
+    (removals : List Removal) (pid : ℕ) → IsAudioRead first stream read → bytes_in stream.units < 2 ^ 31 → frames ≡ read.frames → IsStrictlyIncreasing (map (λ place. place.packet) places) →
+    map (λ arrival. arrival.slot_no) arrivals ≡ map (λ place. place.packet) places → All HasHeaderWithin arrivals → removals ≡ map (frame_removal clock placed) frames →
+    All (λ removal. removal.due ≤ 2 ^ 53) removals → CanBeJudged (record { pid = pid; kind = Audio; arrivals = arrivals; removals = removals })
+audio_judged first places stream read clock placed frames arrivals removals pid is small frames_are rise slots headers removals_are fit =
+    let all : removals ≡ map (frame_removal clock placed) read.frames = removals_are ∙ ap (map (frame_removal clock placed)) frames_are in
+    let count : length removals ≡ length read.frames = ap (λ (rs : List Removal). length rs) all ∙ length-map read.frames (frame_removal clock placed) in
+    let few = read_few first stream read is small in
+    record {
+      in_level = tt;
+      slots_rise = subst IsStrictlyIncreasing (sym slots) rise;
+      headers_within = headers;
+      few = omega (arith, count, few);
+      dues_rise = subst (λ (rs : List Removal). IsNonDecreasing (map (λ (removal : Removal). removal.due) rs)) (sym all) (frames_rise clock placed read.frames is.framed.frames_are.rising);
+      dues_fit = fit;
+    }

@@ -1,0 +1,18 @@
+pub mod ArrivalLaws
+pub mod BusyLaws
+pub mod ClockLaws
+pub mod Judging
+pub mod PacketLaws
+pub mod PartSteps
+pub mod RemovalLaws
+mod Examples
+pub mod SystemLaws
+pub mod TakenLemmas
+pub mod StartLemmas
+pub mod TimeRange
+pub mod FrameTimes
+pub mod AudioLemmas
+pub mod FrameLaws
+pub mod AudioLaws
+pub mod AudioFacts
+pub mod VideoFacts

@@ -1,0 +1,9 @@
+pub mod Clock
+pub mod NeverEmpty
+pub mod Findings
+pub mod PesBytes
+pub mod Removals
+pub mod Streams
+pub mod Refusals
+pub mod Audit
+pub mod Private

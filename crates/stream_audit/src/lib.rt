@@ -1,0 +1,45 @@
+//! A program of a transport stream of constant rate, judged by the model of the decoder (ISO/IEC 13818-1, 2.4.2).
+//!
+//! What is found is said in specs: the clock of the file and the program clock references that are off (`Clock`), what comes to the buffers of each stream
+//! and is removed from them (`PesBytes`, `Removals`, `Streams`), a transport buffer that isn't empty once in a second (`NeverEmpty`), what is found on
+//! streams and which finding is the first (`Findings`), and that of a program of a file (`Audit`). `tstd_model` is the judge of buffers.
+#![tactic(auto)]
+
+mod arrivals;
+mod audio_read;
+mod audit_stop;
+mod audited_audio;
+mod audited_stream;
+mod audited_video;
+mod busy_time;
+mod bytes_before;
+mod clock;
+mod file_clock;
+mod finding;
+mod frame_removals;
+mod judge;
+mod kept_units;
+mod packets_of;
+mod pes_parts;
+mod pes_starts;
+mod removals;
+mod sections;
+mod taken_pes;
+mod video_packets;
+
+pub use arrivals::arrivals_in;
+pub use audit_stop::AuditStop;
+pub use audited_audio::audio_stream;
+pub use audited_stream::AuditedStream;
+pub use audited_video::video_stream;
+pub use busy_time::first_full;
+pub use clock::{FileClock, PCR_TOLERANCE_TICKS, clock_in, first_pcr};
+pub use file_clock::{FoundClock, NULL_PID, found_clock};
+pub use finding::{FaultName, Finding};
+pub use judge::{find, find_first, find_on};
+pub use kept_units::KeptUnits;
+pub use packets_of::stream_packets;
+pub use pes_parts::{KeptBytes, PesParts};
+pub use removals::unit_removals;
+pub use sections::system_stream;
+pub use video_packets::video_of;
