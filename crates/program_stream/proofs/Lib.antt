@@ -11,3 +11,4 @@ pub mod OneAnswer
 pub mod BothForms
 pub mod SomeAnswer
 pub mod Early
+pub mod StreamSizes

@@ -15,5 +15,6 @@ mod split_file;
 pub mod stream_ids;
 mod stream_walk;
 
+pub use found_elements::find_elements;
 pub use split_fault::SplitFault;
 pub use split_file::split;
