@@ -1,4 +1,4 @@
-mod Examples
+pub mod Examples
 pub mod Fields
 pub mod Starts
 pub mod Wholes
