@@ -17,7 +17,7 @@ fn are_same_audio(first: &AudioSource, second: &AudioSource) -> bool {
 }
 
 /// Whether two programs have one audio stream each, the same in both.
-fn have_same_audio(first: &Program, second: &Program) -> bool {
+pub fn have_same_audio(first: &Program, second: &Program) -> bool {
     match (first.audios.as_slice(), second.audios.as_slice()) {
         ([one], [other]) => are_same_audio(one, other),
         _ => false,
@@ -25,7 +25,7 @@ fn have_same_audio(first: &Program, second: &Program) -> bool {
 }
 
 /// Whether two programs have as many units, with the same times.
-fn have_same_times(first: &Program, second: &Program) -> bool {
+pub fn have_same_times(first: &Program, second: &Program) -> bool {
     for (at, unit) in first.units.as_slice().iter().enumerate() {
         match second.units.as_slice().get(at) {
             Some(other) if other.times == unit.times && other.due == unit.due => {}
