@@ -96,11 +96,11 @@ not-earlier one never job contents a b ra rb small =
 same-refused : OneRefusal → NeverBoth → (slot start : ℕ) (read read' : List (List ℕ)) (ps ps' : List Program) (job job' : ProgramJob) (content content' : List ℕ) (kind kind' : SourceKind) (at at' : ℕ)
     → read ≡ read' → ps ≡ ps' → job ≡ job' → content ≡ content'
     → IsRefusedBehind slot start (bytes_of_files read) (units_of_programs ps) job.form job.program job.drop.items (job_keeps job) content kind at
-    → IsRefusedBehind slot start (bytes_of_files read') (units_of_programs ps') job'.program job'.drop.items (job_keeps job') content' kind' at'
+    → IsRefusedBehind slot start (bytes_of_files read') (units_of_programs ps') job'.form job'.program job'.drop.items (job_keeps job') content' kind' at'
     → (kind ≡ kind') × (at ≡ at')
 same-refused only never slot start read read' ps ps' job job' content content' kind kind' at at' er ep ej ec r r' =
-    let r1 = subst (λ (l : List (List ℕ)). IsRefusedBehind slot start (bytes_of_files l) (units_of_programs ps') job'.program job'.drop.items (job_keeps job') content' kind' at') (sym er) r' in
-    let r2 = subst (λ (l : List Program). IsRefusedBehind slot start (bytes_of_files read) (units_of_programs l) job'.program job'.drop.items (job_keeps job') content' kind' at') (sym ep) r1 in
+    let r1 = subst (λ (l : List (List ℕ)). IsRefusedBehind slot start (bytes_of_files l) (units_of_programs ps') job'.form job'.program job'.drop.items (job_keeps job') content' kind' at') (sym er) r' in
+    let r2 = subst (λ (l : List Program). IsRefusedBehind slot start (bytes_of_files read) (units_of_programs l) job'.form job'.program job'.drop.items (job_keeps job') content' kind' at') (sym ep) r1 in
     let r3 = subst (λ (j : ProgramJob). IsRefusedBehind slot start (bytes_of_files read) (units_of_programs ps) j.form j.program j.drop.items (job_keeps j) content' kind' at') (sym ej) r2 in
     let r4 = subst (λ (l : List ℕ). IsRefusedBehind slot start (bytes_of_files read) (units_of_programs ps) job.form job.program job.drop.items (job_keeps job) l kind' at') (sym ec) r3 in
     one-refusal only never slot start (bytes_of_files read) (units_of_programs ps) job.form job.program job.drop.items (job_keeps job) content kind kind' at at' r r4

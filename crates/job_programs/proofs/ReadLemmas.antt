@@ -192,12 +192,12 @@ not-read told job i wanted programs bytes units old middle new since OutOfMemory
 pub went-on : (told told' : Option Files) (slot start : ℕ) (jobs : List ProgramJob) (i : ℕ) (job : ProgramJob) (programs : List Program) (bytes units size : ℕ) (program : Program)
     (name drop coarser : List ℕ) → told' ≡ told → name ≡ job.file → drop ≡ job.drop.items → coarser ≡ job.coarser.items
     → i < length jobs → job ≡ get_or jobs i job → ReadSoFar told slot start (take i jobs) programs bytes units
-    → IsNextOn told' name slot start bytes units job.program drop (KeepsShare job.weight job.drift coarser) size program
+    → IsNextOn told' name slot start bytes units job.form job.program drop (KeepsShare job.weight job.drift coarser) size program
     → ReadSoFar told slot start (take (i + 1) jobs) (programs ++ program ∷ []) (bytes + size) (units + length program.units)
 went-on told told' slot start jobs i job programs bytes units size program name drop coarser et en ed ec within is read next =
-    let n1 = subst (λ (t : Option Files). IsNextOn t name slot start bytes units job.program drop (KeepsShare job.weight job.drift coarser) size program) et next in
-    let n2 = subst (λ (n : List ℕ). IsNextOn told n slot start bytes units job.program drop (KeepsShare job.weight job.drift coarser) size program) en n1 in
-    let n3 = subst (λ (d : List ℕ). IsNextOn told job.file slot start bytes units job.program d (KeepsShare job.weight job.drift coarser) size program) ed n2 in
+    let n1 = subst (λ (t : Option Files). IsNextOn t name slot start bytes units job.form job.program drop (KeepsShare job.weight job.drift coarser) size program) et next in
+    let n2 = subst (λ (n : List ℕ). IsNextOn told n slot start bytes units job.form job.program drop (KeepsShare job.weight job.drift coarser) size program) en n1 in
+    let n3 = subst (λ (d : List ℕ). IsNextOn told job.file slot start bytes units job.form job.program d (KeepsShare job.weight job.drift coarser) size program) ed n2 in
     let n4 = subst (λ (c : List ℕ). IsNextOn told job.file slot start bytes units job.form job.program job.drop.items (KeepsShare job.weight job.drift c) size program) ec n3 in
     read-more told slot start jobs i job programs bytes units size program within is read n4
 
@@ -205,12 +205,12 @@ pub stopped : (told told' : Option Files) (job : Job) (i : ℕ) (wanted : Progra
     (old middle new : ShelfCounts) (since : ℕ) (fault : ProgramsFault) → told' ≡ told → name ≡ wanted.file → drop ≡ wanted.drop.items → coarser ≡ wanted.coarser.items → place ≡ i
     → i < length job.programs → wanted ≡ get_or job.programs i wanted → ReadSoFar told job.slot job.start (take i job.programs) programs bytes units
     → CountReads old middle → CountReads middle new
-    → HasNextCause told' name job.slot job.start bytes units wanted.program drop (KeepsShare wanted.weight wanted.drift coarser) place middle new since fault
+    → HasNextCause told' name job.slot job.start bytes units wanted.form wanted.program drop (KeepsShare wanted.weight wanted.drift coarser) place middle new since fault
     → HasReadCause told job old new since fault
 stopped told told' job i wanted programs bytes units place name drop coarser old middle new since fault et en ed ec ep within is read before after cause =
-    let c1 = subst (λ (t : Option Files). HasNextCause t name job.slot job.start bytes units wanted.program drop (KeepsShare wanted.weight wanted.drift coarser) place middle new since fault) et cause in
-    let c2 = subst (λ (n : List ℕ). HasNextCause told n job.slot job.start bytes units wanted.program drop (KeepsShare wanted.weight wanted.drift coarser) place middle new since fault) en c1 in
-    let c3 = subst (λ (d : List ℕ). HasNextCause told wanted.file job.slot job.start bytes units wanted.program d (KeepsShare wanted.weight wanted.drift coarser) place middle new since fault) ed c2 in
+    let c1 = subst (λ (t : Option Files). HasNextCause t name job.slot job.start bytes units wanted.form wanted.program drop (KeepsShare wanted.weight wanted.drift coarser) place middle new since fault) et cause in
+    let c2 = subst (λ (n : List ℕ). HasNextCause told n job.slot job.start bytes units wanted.form wanted.program drop (KeepsShare wanted.weight wanted.drift coarser) place middle new since fault) en c1 in
+    let c3 = subst (λ (d : List ℕ). HasNextCause told wanted.file job.slot job.start bytes units wanted.form wanted.program d (KeepsShare wanted.weight wanted.drift coarser) place middle new since fault) ed c2 in
     let c4 = subst (λ (p : ℕ). HasNextCause told wanted.file job.slot job.start bytes units wanted.form wanted.program wanted.drop.items (KeepsShare wanted.weight wanted.drift coarser) p middle new since fault) ep c3 in
     let c5 = subst (λ (c : List ℕ). HasNextCause told wanted.file job.slot job.start bytes units wanted.form wanted.program wanted.drop.items (KeepsShare wanted.weight wanted.drift c) i middle new since fault) ec c4 in
     not-read told job i wanted programs bytes units old middle new since fault within is read before after c5
