@@ -73,7 +73,14 @@ pub fn work(rt: &HostRuntime, words: &[String]) -> io::Result<()> {
             )
         }
         _ => {
-            let program = match read_program(rt.alloc(), file.as_slice(), Form::Ts, number, &[], START) {
+            let program = match read_program(
+                rt.alloc(),
+                file.as_slice(),
+                Form::Ts,
+                number,
+                &[],
+                START,
+            ) {
                 Ok(program) => program,
                 Err(fault) => return println!(rt; "{fault}"),
             };

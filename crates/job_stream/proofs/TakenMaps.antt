@@ -1,5 +1,5 @@
 -- The map of what is taken out of a file of either form can be written, and stands in one packet.
-use Rattle.std.proofs.Common.{◌≡◌, ℕ, ◌+◌, ◌*◌, ◌^◌, ◌<◌, ◌≤◌, suc, Bool, true, false, cond, List, [], ◌∷◌, ◌++◌, All, length, map, not, Some, refl, sym, ap, subst, ◌∙◌, arith}
+use Rattle.std.proofs.Common.{◌≡◌, ℕ, ◌+◌, ◌*◌, ◌^◌, ◌<◌, ◌≤◌, suc, Bool, true, false, cond, List, [], ◌∷◌, ◌++◌, All, length, leb, map, not, Some, refl, sym, ap, subst, ◌∙◌, arith}
 use Rattle.std.specs.List.{filter, find, flat_map}
 use Rattle.std.proofs.lemmas.Bool.{and_parts, leb-true}
 use Rattle.std.proofs.lemmas.List.{length-append}
@@ -24,17 +24,13 @@ use Rattle.program_reader.specs.Packets.{joined}
 use Rattle.program_reader.specs.Audio.{taken_of}
 use Rattle.program_reader.specs.Programs.{IsTakenOut, StandIn, in_packets, in_elements}
 use Rattle.program_table.proofs.TakenOut.{of-elements, typed-streams, typed_stream}
-use Rattle.job_stream.proofs.Maps.{carried-kinds, carried-writable}
-
--- a type of 8 bits
-abbrev HasKind : Stream → Type 0
-HasKind stream = stream.kind < 2 ^ 8
+use Rattle.job_stream.proofs.Maps.{HasKind, carried-kinds, carried-writable}
 
 -- such a map, with types of 8 bits
 pub record CanBeWritten (program_map : ProgramMap) : Type 0 where
   pub writable : IsWritableMap program_map
   pub fits : pmt_length program_map ≤ 183
-  pub kinds : All (λ (stream : Stream). stream.kind < 2 ^ 8) program_map.streams.items
+  pub kinds : All HasKind program_map.streams.items
 
 -- ---- stream ids of a program stream
 
@@ -43,20 +39,12 @@ abbrev IsSmall : ℕ → Type 0
 IsSmall id = id < 256
 
 video-small : (id : ℕ) → is_stream_id true id ≡ true → IsSmall id
-video-small id is = omega (arith, leb-true id 0xEF (and_parts _ _ is).1)
+video-small id is = omega (arith, leb-true id 0xEF (and_parts (leb 0xE0 id) (leb id 0xEF) is).1)
 
 audio-small : (drop : List ℕ) (id : ℕ) → is_carried_audio drop id ≡ true → IsSmall id
 audio-small drop id is =
     let audio : is_stream_id false id ≡ true = (and_parts (is_stream_id false id) (not (is_among drop id)) is).0 in
-    omega (arith, leb-true id 0xDF (and_parts _ _ audio).1)
-
-filtered : (P : ℕ → Type 0) (p : ℕ → Bool) → ((id : ℕ) → p id ≡ true → P id) → (ids : List ℕ) → All P (filter p ids)
-filtered P p holds [] = All-nil P
-filtered P p holds (x ∷ ids) = by_test (p x) refl (filtered P p holds ids)
-  where
-    by_test : (is : Bool) → p x ≡ is → All P (filter p ids) → All P (cond is (x ∷ filter p ids) (filter p ids))
-    by_test true is rest = All-cons P x (filter p ids) (holds x is) rest
-    by_test false is rest = rest
+    omega (arith, leb-true id 0xDF (and_parts (leb 0xC0 id) (leb id 0xDF) audio).1)
 
 first-all : (P : ℕ → Type 0) (before ids : List ℕ) → All P ids → All P (first_coming before ids)
 first-all P before [] all = All-nil P
@@ -79,7 +67,9 @@ found-passes p (x ∷ ids) id found = by_test (p x) refl found (found-passes p i
 pids-small : (file drop : List ℕ) (found : Demuxed) (cut : ℕ) → IsSplit file drop found cut → All (λ (audio : AudioStream). IsSmall audio.pid) found.audios
 pids-small file drop found cut is =
     let ids : All IsSmall (carried_audio_ids drop is.elements) =
-    first-all IsSmall [] (filter (is_carried_audio drop) (ids_of is.elements)) (filtered IsSmall (is_carried_audio drop) (audio-small drop) (ids_of is.elements)) in
+    first-all IsSmall [] (filter (is_carried_audio drop) (ids_of is.elements))
+    (All-weaker (λ (id : ℕ). is_carried_audio drop id ≡ true) IsSmall (audio-small drop) (filter (is_carried_audio drop) (ids_of is.elements))
+    (filter_passes (is_carried_audio drop) (ids_of is.elements))) in
     subst (All (λ (audio : AudioStream). IsSmall audio.pid)) (sym is.audio_packets)
     (All-map (λ (audio : AudioStream). IsSmall audio.pid) (stream_with_id is.elements) (carried_audio_ids drop is.elements) ids)
 
