@@ -28,14 +28,13 @@ abbrev by_type : AudioStream → Stream
 by_type audio = map_stream (audio_type audio) audio.pid
 
 pub typed_more : (before : List Stream) (audios : List AudioStream) (read : List ReadStream) (at : ℕ) (audio : AudioStream) (one : ReadStream) (streams news : List Stream) → at < length audios →
-    audio ≡ get_or audios at audio → one ≡ get_or read at one → map (λ one. one.kind) read ≡ map audio_type audios → streams ≡ before ++ map by_type (take at audios) →
-    news ≡ streams ++ map_stream one.kind audio.pid ∷ [] → news ≡ before ++ map by_type (take (at + 1) audios)
-typed_more before audios read at audio one streams news lt audio_is one_is types so_far pushed =
-    let kind : one.kind ≡ audio_type audio =
-    ap (λ (r : ReadStream). r.kind) one_is ∙ same_at (λ (r : ReadStream). r.kind) audio_type read audios at one audio types lt ∙ ap audio_type (sym audio_is) in
-    let more : take (at + 1) audios ≡ take at audios ++ audio ∷ [] = take_more audios at audio lt ∙ ap (λ (a : AudioStream). take at audios ++ a ∷ []) (sym audio_is) in
-    pushed ∙ ap₂ (λ (ss : List Stream) (n : ℕ). ss ++ map_stream n audio.pid ∷ []) so_far kind ∙ append_assoc before (map by_type (take at audios)) (by_type audio ∷ [])
-    ∙ ap (λ (ss : List Stream). before ++ ss) (sym (map-append by_type (take at audios) (audio ∷ [])) ∙ ap (map by_type) (sym more))
+    map (λ one. one.kind) read ≡ map audio_type audios → streams ≡ before ++ map by_type (take at audios) →
+    news ≡ streams ++ map_stream (get_or read at one).kind (get_or audios at audio).pid ∷ [] → news ≡ before ++ map by_type (take (at + 1) audios)
+typed_more before audios read at audio one streams news lt types so_far pushed =
+    let kind : (get_or read at one).kind ≡ audio_type (get_or audios at audio) = same_at (λ (r : ReadStream). r.kind) audio_type read audios at one audio types lt in
+    let more : take (at + 1) audios ≡ take at audios ++ get_or audios at audio ∷ [] = take_more audios at audio lt in
+    pushed ∙ ap₂ (λ (ss : List Stream) (n : ℕ). ss ++ map_stream n (get_or audios at audio).pid ∷ []) so_far kind ∙ append_assoc before (map by_type (take at audios)) (by_type (get_or audios at audio) ∷ [])
+    ∙ ap (λ (ss : List Stream). before ++ ss) (sym (map-append by_type (take at audios) (get_or audios at audio ∷ [])) ∙ ap (map by_type) (sym more))
 
 -- there is room for one more
 pub typed_room : (first : List Stream) (audios : List AudioStream) (at : ℕ) (streams : List Stream) → at < length audios → length audios ≤ 8 →

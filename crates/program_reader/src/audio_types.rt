@@ -6,10 +6,10 @@ ghost use Rattle.program_reader.specs.Audio.{taken_of};
 ghost use Rattle.program_reader.specs.AudioTypes.{audio_type, with_audio_types, map_by_form};
 
 use crate::audio_stream::ReadStream;
-use arrayvec::ArrayVec;
 use audio_frames::has_low_rate;
 use job_report::Form;
-use psi_tables::{ProgramMap, Stream};
+use program_stream::map_stream;
+use psi_tables::ProgramMap;
 use stream_constants::limits::AUDIOS_MOST;
 use ts_demux::AudioStream;
 
@@ -66,11 +66,7 @@ fn with_audio_types(
     } = program_map;
     streams.truncate(1);
     for at in 0..audios.len() {
-        streams.push(Stream {
-            kind: read[at].kind,
-            pid: audios[at].pid,
-            descriptors: ArrayVec::new(),
-        });
+        streams.push(map_stream(read[at].kind, audios[at].pid));
     }
     ProgramMap {
         number,

@@ -52,8 +52,8 @@ few_audios file drop demuxed cut is =
     omega (arith, count, is.few)
 
 end_cut : (rest : List ℕ) (cut : ℕ) → IsEnd rest cut → cut ≤ 1
-end_cut rest cut (zero_bytes zeros is none) = omega (arith, none)
-end_cut rest cut (prefix_alone zeros is one) = omega (arith, one)
+end_cut rest cut (zero_bytes count is none) = omega (arith, none)
+end_cut rest cut (prefix_alone count is one) = omega (arith, one)
 end_cut rest cut (cut_element element is short one) = omega (arith, one)
 
 pub one_cut : (file drop : List ℕ) (demuxed : Demuxed) (cut : ℕ) → IsSplit file drop demuxed cut → cut ≤ 1

@@ -160,8 +160,8 @@ fn map_of(video: u16, audios: &[AudioStream]) -> ProgramMap
     }
 }
 
-/// A stream of a map without descriptors.
-fn map_stream(kind: u8, pid: u16) -> Stream
+/// A stream of a map without descriptors, of a `stream_type` and with a stream id as its PID.
+pub fn map_stream(kind: u8, pid: u16) -> Stream
     ensures { result ≡ map_stream kind pid }
 {
     Stream {

@@ -5,4 +5,4 @@ use Rattle.program_reader.specs.AudioTypes.{audio_type}
 use Rattle.program_reader.proofs.audio_types.with_audio_types.Given as goal
 
 abbrev pub invariant-loop-at : goal.invariant-loop-at
-invariant-loop-at l = l.streams.items ≡ take 1 l.program_map.streams.items ++ map (λ (audio : AudioStream). map_stream (audio_type audio) audio.pid) (take l.at l.audios)
+invariant-loop-at l = l.streams.items ≡ take 1 l.fn.program_map.streams.items ++ map (λ (audio : AudioStream). map_stream (audio_type audio) audio.pid) (take l.at l.audios)

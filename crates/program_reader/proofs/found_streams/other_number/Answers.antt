@@ -18,4 +18,4 @@ returns-in-Ok c = λ drop.
 pub returns-in-Err : goal.returns-in-Err
 returns-in-Err c = λ drop.
     AreStreamsRefused.of_elements c.in-Err.fault refl (λ other. refused_or_not c.args.file.now other.elements other.cut c.in-Err.fault other.elements_are.are c.in-Err.ensures)
-    (IsSplitRefused.element c.if-file-lt-PACK_HEADER_BYTES.false c.in-Err.ensures) c.split_refused-2.ensures
+    (IsSplitRefused.element c.if-file-lt-PACK_HEADER_BYTES.false c.in-Err.ensures) c.split_refused-in-Err.ensures
