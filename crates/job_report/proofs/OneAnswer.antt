@@ -37,11 +37,16 @@ one_text : (s t : List ℕ) → string s ≡ string t → s ≡ t
 unfolding text_of
 one_text s t e = ap text_of e
 
+first_code : List ℕ → ℕ
+first_code [] = 0
+first_code (n ∷ text) = n
+
 one_form : (f g : Form) → form_text f ≡ form_text g → f ≡ g
+unfolding first_code
 one_form Ts Ts e = refl
 one_form Ps Ps e = refl
-one_form Ts Ps e = absurd cc
-one_form Ps Ts e = absurd cc
+one_form Ts Ps e = absurd (let n : 116 ≡ 112 = ap first_code e in omega (arith, n))
+one_form Ps Ts e = absurd (let n : 112 ≡ 116 = ap first_code e in omega (arith, n))
 
 -- ---- one program and one job
 

@@ -14,7 +14,9 @@ use crate::fault::JobFault;
 use crate::job::{Form, ProgramJob};
 use crate::limits::{COARSER_DEFAULT, COARSER_MOST, FIELD_NAME_MOST};
 use crate::place::{Place, field_fault, wrong_fault};
-use crate::values::{coarser_in, form_in, new_number_in, number_in, numbers_in, tables_in, text_in};
+use crate::values::{
+    coarser_in, form_in, new_number_in, number_in, numbers_in, tables_in, text_in,
+};
 use arrayvec::ArrayVec;
 use toml::{Table, Value};
 

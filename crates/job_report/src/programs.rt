@@ -9,8 +9,8 @@ ghost use Rattle.job_report.specs.Private.Fault.{TellsFirst};
 
 use crate::fault::JobFault;
 use crate::fields::{
-    optional_coarser, optional_form, optional_number, optional_numbers, required_new_number, required_number,
-    required_text,
+    optional_coarser, optional_form, optional_number, optional_numbers, required_new_number,
+    required_number, required_text,
 };
 use crate::job::ProgramJob;
 use crate::limits::{

@@ -2,10 +2,11 @@
 
 use crate::amounts::Seconds;
 use crate::clock::ticks_before;
-use crate::job_again::{file_of, job_table};
+use crate::job_again::{file_of, form_of, job_table};
 use crate::kinds::{Help, Place, kind_of};
 use crate::limits::program_limits;
 use crate::line::{End, number, text};
+use job_report::Form;
 use serde_json::Value;
 use std::alloc::{AllocError, Global};
 use std::rt::Files;
@@ -23,11 +24,15 @@ pub(crate) fn refused_source<R: Files + AllocGlobal>(
 ) -> Result<String, AllocError> {
     if end.word(0) == "probe" {
         let of = format!(in rt.alloc(); "program {} of {}", end.word(2), end.word(1))?;
-        return refused_in(rt, of.as_str(), end.word(1), line);
+        return refused_in(rt, of.as_str(), end.word(1), Form::Ts, line);
     }
     match job_table(rt, end.word(1)) {
-        Some(table) => refused_of_job(rt, end, file_of(&table, number(line, "program")), line),
-        None => refused_of_job(rt, end, None, line),
+        Some(table) => {
+            let program = number(line, "program");
+            let form = form_of(&table, program);
+            refused_of_job(rt, end, file_of(&table, program), form, line)
+        }
+        None => refused_of_job(rt, end, None, Form::Ts, line),
     }
 }
 
@@ -36,6 +41,7 @@ fn refused_of_job<R: Files + AllocGlobal>(
     rt: &R,
     end: &End<'_>,
     file: Option<&str>,
+    form: Form,
     line: &Value,
 ) -> Result<String, AllocError> {
     let file = file.unwrap_or("FILE");
@@ -44,7 +50,7 @@ fn refused_of_job<R: Files + AllocGlobal>(
         number = number(line, "program"),
         job = end.word(1)
     )?;
-    refused_in(rt, of.as_str(), file, line)
+    refused_in(rt, of.as_str(), file, form, line)
 }
 
 /// What is wrong with a file, where, and what helps.
@@ -52,16 +58,17 @@ fn refused_in<R: Files + AllocGlobal>(
     rt: &R,
     of: &str,
     file: &str,
+    form: Form,
     line: &Value,
 ) -> Result<String, AllocError> {
     let alloc = rt.alloc();
     let name = text(line, "kind");
     let at = number(line, "at");
-    match kind_of(name) {
+    match kind_of(name, form) {
         None => { format!(in alloc; "{of} is refused: {name} at byte {at} (docs/REFUSALS.md)") }
         Some(kind) => {
-            let place = place(rt, kind.place, file, at)?;
-            let help = help(alloc, kind.help, file, at)?;
+            let place = place(rt, kind.place, file, form, at)?;
+            let help = help(alloc, kind.help, file, form, at)?;
             format!(in alloc;
                 "{of} is refused: {what} ({name}{place}); {help}",
                 what = kind.what
@@ -70,11 +77,12 @@ fn refused_in<R: Files + AllocGlobal>(
     }
 }
 
-/// Where it is wrong: the byte, and in a file also the packet and how long after the file's first clock it comes.
+/// Where it is wrong.
 fn place<R: Files + AllocGlobal>(
     rt: &R,
     place: Place,
     file: &str,
+    form: Form,
     at: u64,
 ) -> Result<String, AllocError> {
     let alloc = rt.alloc();
@@ -83,22 +91,35 @@ fn place<R: Files + AllocGlobal>(
         Place::Video => format!(in alloc; " at byte {at} of its video"),
         Place::Audio => format!(in alloc; " at byte {at} of an audio stream"),
         Place::Stream => format!(in alloc; " at byte {at} of its video or an audio stream"),
-        Place::File => {
-            let packet = at / PACKET_BYTES as u64;
-            match ticks_before(rt, file, at) {
-                Some(ticks) => format!(in alloc;
-                    " at byte {at}, packet {packet} from 0, {time} s behind the file's first clock",
-                    time = Seconds { ticks }
-                ),
-                None => format!(in alloc; " at byte {at}, packet {packet} from 0"),
-            }
-        }
+        Place::File => match form {
+            Form::Ps => format!(in alloc; " at byte {at}"),
+            Form::Ts => packet_place(rt, file, at),
+        },
+    }
+}
+
+/// The byte of a transport stream, its packet, and how long after the file's first clock it comes.
+fn packet_place<R: Files + AllocGlobal>(rt: &R, file: &str, at: u64) -> Result<String, AllocError> {
+    let packet = at / PACKET_BYTES as u64;
+    match ticks_before(rt, file, at) {
+        Some(ticks) => format!(in rt.alloc();
+            " at byte {at}, packet {packet} from 0, {time} s behind the file's first clock",
+            time = Seconds { ticks }
+        ),
+        None => format!(in rt.alloc(); " at byte {at}, packet {packet} from 0"),
     }
 }
 
 /// What helps, with the command where there is one.
-fn help(alloc: Global, help: Help, file: &str, at: u64) -> Result<String, AllocError> {
+fn help(alloc: Global, help: Help, file: &str, form: Form, at: u64) -> Result<String, AllocError> {
     match help {
+        Help::Packets => format!(in alloc;
+            "is it a program stream of MPEG-2? A transport stream wants no `form`, and `ffmpeg -i {file} -map 0 -c copy -f mpegts NEW` makes one of it"
+        ),
+        Help::OtherForm => format!(in alloc;
+            "if it is a program stream, a job reads it with `form = \"ps\"`; else write it anew as packets of 188 bytes: \
+             `ffmpeg -i {file} -map 0 -c copy -f mpegts NEW`"
+        ),
         Help::Rewrite => format!(in alloc;
             "write it anew as packets of 188 bytes: `ffmpeg -i {file} -map 0 -c copy -f mpegts NEW`"
         ),
@@ -110,7 +131,8 @@ fn help(alloc: Global, help: Help, file: &str, at: u64) -> Result<String, AllocE
         ),
         Help::Recode => format!(in alloc; "code it anew: `ffmpeg -i {file} {CODE}`"),
         Help::RecodeAudio => format!(in alloc;
-            "name its PID in `drop` of the job, or code it anew: `ffmpeg -i {file} -map 0 -c:v copy -c:a mp2 -af aresample=async=1 -f mpegts NEW`"
+            "name its {pid} in `drop` of the job, or code it anew: `ffmpeg -i {file} -map 0 -c:v copy -c:a mp2 -af aresample=async=1 -f mpegts NEW`",
+            pid = stream_number(form)
         ),
         Help::Times => format!(in alloc;
             "let its times be made anew: `ffmpeg -fflags +genpts -i {file} -map 0 -c copy -f mpegts NEW`, and for audio \
@@ -121,10 +143,19 @@ fn help(alloc: Global, help: Help, file: &str, at: u64) -> Result<String, AllocE
     }
 }
 
+/// By what a job names a stream of a file.
+fn stream_number(form: Form) -> &'static str {
+    match form {
+        Form::Ts => "PID",
+        Form::Ps => "stream id",
+    }
+}
+
 /// What helps without a command.
 fn advice(help: Help) -> &'static str {
     match help {
         Help::OtherFile => "is it the right file, and a transport stream?",
+        Help::NumberOne => "name `program = 1`",
         Help::Descramble => "descramble it first",
         Help::Drop => "name audio streams in `drop` of the job",
         Help::Broken =>
