@@ -8,4 +8,5 @@ pub mod Audio
 pub mod Programs
 pub mod Carry
 pub mod Sizes
+pub mod VideoWalk
 pub mod Private
