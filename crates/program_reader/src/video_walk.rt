@@ -143,7 +143,10 @@ impl<'a> VideoWalk<'a> {
         ensures wanted { wanted_of self.new ≡ wanted_of self.old }
     {
         let mut count = 0;
-        while count < bytes.len() && self.refused.is_none() {
+        while count < bytes.len() {
+            if self.refused.is_some() {
+                return Ok(());
+            }
             count += self.read_next(&bytes[count..])?;
         }
         Ok(())

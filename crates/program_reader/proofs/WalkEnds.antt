@@ -1,0 +1,328 @@
+-- A walk over the PES packets of a video at its begin and at its end.
+use Rattle.std.proofs.Common.{
+  ◌≡◌,
+  ◌⊎◌,
+  ℕ,
+  ◌+◌,
+  ◌-◌,
+  ◌<◌,
+  ◌≤◌,
+  ◌^◌,
+  min,
+  Bool,
+  true,
+  false,
+  List,
+  [],
+  ◌∷◌,
+  ◌++◌,
+  length,
+  take,
+  drop,
+  map,
+  slice_range,
+  All,
+  Option,
+  Some,
+  None,
+  IfSome,
+  Result,
+  Ok,
+  Err,
+  IfOk,
+  MatchResult,
+  refl,
+  sym,
+  ap,
+  ◌∙◌,
+  subst,
+  inl,
+  inr,
+  arith,
+}
+use Rattle.std.proofs.lemmas.List.{append-nil, length-append, length-take, take_all}
+use Rattle.std.proofs.lemmas.List.Elements.{All-nil}
+use Rattle.es_units.specs.declared.unit_cutter.CutUnit.{CutUnit}
+use Rattle.es_units.specs.declared.unit_cutter.UnitCutter.{UnitCutter}
+use Rattle.es_units.specs.declared.units.Units.{Units}
+use Rattle.es_units.specs.UnitCutter.{HasCut, front_of, most_kept, place_of, units_dropped}
+use Rattle.es_units.specs.Units.{cut_units}
+use Rattle.pes_units.specs.declared.times.Times.{Times}
+use Rattle.pes_units.specs.Times.{decoding_time}
+use Rattle.picture_grammar.specs.Refusal.{Refusal}
+use Rattle.ts_demux.specs.declared.demuxed.Demuxed.{Demuxed}
+use Rattle.ts_demux.specs.declared.demuxed.PesUnit.{PesUnit}
+use Rattle.version_table.specs.declared.limits.TheConstants.{VERSIONS_MOST}
+use Rattle.program_reader.specs.declared.kept_units.KeptUnit.{KeptUnit}
+use Rattle.program_reader.specs.declared.kept_units.KeptUnits.{KeptUnits}
+use Rattle.program_reader.specs.declared.limits.TheConstants.{FILE_BYTES_MOST}
+use Rattle.program_reader.specs.declared.passed_units.PassedUnits.{PassedUnits}
+use Rattle.program_reader.specs.declared.pes_packets.PlacedPacket.{PlacedPacket}
+use Rattle.program_reader.specs.declared.program_fault.ProgramFault.{ProgramFault}
+use Rattle.program_reader.specs.declared.program_fault.ProgramFault.TheVariants.{OutOfMemory, Refused}
+use Rattle.program_reader.specs.declared.program_fault.SourceKind.TheVariants as kinds
+use Rattle.program_reader.specs.declared.timed_picture.TimedPicture.{TimedPicture}
+use Rattle.program_reader.specs.declared.unit_sizes.SizesWanted.{SizesWanted}
+use Rattle.program_reader.specs.declared.unit_sizes.UnitSizes.{UnitSizes}
+use Rattle.program_reader.specs.declared.video_places.VideoPlaces.{VideoPlaces}
+use Rattle.program_reader.specs.declared.video_walk.WalkedVideo.{WalkedVideo}
+use Rattle.program_reader.specs.Intervals.{nearest}
+use Rattle.program_reader.specs.Packets.{AreSound, joined, packets_dropped, placed_from, taken}
+use Rattle.program_reader.specs.Programs.{HasUnits, IsDemuxedRefused, video_bytes, video_packets}
+use Rattle.program_reader.specs.Sizes.{AreUnitSizes}
+use Rattle.program_reader.specs.TimesWalk.{HasPassed}
+use Rattle.program_reader.specs.Units.{AreKept, IsBroken, IsNext, IsUnitRefused, IsUnitsFault, last_of, state_behind, unit_bytes}
+use Rattle.program_reader.specs.VideoWalk.{AreFew, AreRefused, HasUnitFault, IsVideoOf, IsVideoWalked}
+use Rattle.program_reader.specs.Private.AudioStarts.{IsNear}
+use Rattle.program_reader.specs.Private.Dues.{IsTime}
+use Rattle.program_reader.specs.Private.KeptUnits.{AreRows, AreUnitsKept, IsPictureNear, Keep}
+use Rattle.program_reader.specs.Private.PassedVideo.{Stand, IsKeptAs, timed_as, IsReadAs, end_of, AreStatedTo, KeepAlways, AreSizedAlways, HavePassed, ReadsTo}
+use Rattle.program_reader.specs.Private.SizedUnits.{AreSizedSoFar, IsSizedBehind, IsSizedFound, kept_at}
+use Rattle.program_reader.specs.Private.TimedPictures.{IsFound, IsNotFound, IsPossible}
+use Rattle.program_reader.proofs.KeepLemmas.{all_earlier, keep_next, last_tells, nearest_last, range_of_unit}
+use Rattle.program_reader.proofs.PassedLemmas.{AreGiven, Follows, fits_last, given_of, passed_later, possible_always, stated_few}
+use Rattle.program_reader.proofs.ProgramLemmas.{first_none, first_some, none_kept, nothing_kept}
+use Rattle.program_reader.proofs.SizedLemmas.{sized_all, sized_more, sized_none}
+use Rattle.program_reader.proofs.StatedTimes.{count_behind, stated_more, stated_none, step_is}
+use Rattle.program_reader.proofs.StreamLemmas.{placed_times}
+use Rattle.program_reader.proofs.TimeRange.{IsInRange}
+
+-- ---- before the first packet
+
+pub reads_none : (places : VideoPlaces) (cutter : UnitCutter) (units : PassedUnits) → Stand [] places → HasCut [] [] cutter → most_kept cutter ≡ FILE_BYTES_MOST
+    → units.kept.units.items ≡ [] → units.kept.first ≡ None → units.kept.last ≡ None → units.kept.dropped ≡ 0 → units.sizes.items ≡ []
+    → HasPassed places.pictures.items places.packets.items 0 units.times → length units.wanted.coarser.now < VERSIONS_MOST → ReadsTo [] 0 places cutter units
+reads_none places cutter units stand cut most none first last dropped sizes passed coarser = record {
+  stand = stand;
+  within = omega arith;
+  given = [];
+  cut = cut;
+  most = most;
+  units = record {
+    keep = record {
+      pictures = [];
+      keep = λ more. record {
+        in_order = tt;
+        rows = subst (AreRows [] []) (sym none) tt;
+        first_is = first;
+        first_near = subst (λ (f : Option TimedPicture). IfSome f (λ picture. IsNear 0 picture.stated)) (sym first) tt;
+        last_is = last;
+        ticks = subst (All (λ (unit : KeptUnit). IsTime unit.ticks)) (sym none) (All-nil (λ (unit : KeptUnit). IsTime unit.ticks));
+      };
+      dropped = dropped;
+      count = 0;
+      stated = λ more. stated_none more;
+      near = subst (λ (f : Option TimedPicture). IfSome f (IsPictureNear 0 0)) (sym last) tt;
+    };
+    sized = λ want more. sized_none (joined more) units.wanted.coarser.now units.kept.last units.kept.units.items units.sizes.items none last sizes;
+    passed = passed;
+    coarser = coarser;
+  };
+}
+
+-- ---- the last unit
+
+module _ (packets : List PesUnit) (places : VideoPlaces) (cutter : UnitCutter) (units : PassedUnits) (few : AreFew packets)
+    (reads : ReadsTo packets (length (joined packets)) places cutter units) where
+  abbrev es : List ℕ
+  es = joined packets
+
+  abbrev ps : List PlacedPacket
+  ps = placed_from 0 packets
+
+  pub cut_all : HasCut es reads.given cutter
+  cut_all = subst (λ (xs : List ℕ). HasCut xs reads.given cutter) (take_all (length es) es (omega arith)) reads.cut
+
+  abbrev always : KeepAlways packets reads.given units.kept
+  always = reads.units.keep
+
+  module _ (unit : CutUnit)
+      (cut_is : cut_units es ≡ Some (let u : Units = record { dropped = units_dropped cutter; cuts = reads.given ++ place_of unit ∷ [] } in u))
+      (own : unit.bytes.now ≡ front_of (most_kept cutter) es (place_of unit)) where
+    given_last : AreGiven es (reads.given ++ place_of unit ∷ [])
+    given_last =
+        given_of es (reads.given ++ place_of unit ∷ [])
+        (rw cut_is ([], sym (append-nil (reads.given ++ place_of unit ∷ []))))
+
+    pub follows_last : Follows (length es) (end_of 0 reads.given) (place_of unit)
+    follows_last = fits_last (length es) 0 reads.given (place_of unit) given_last.fits
+
+    pub few_last : length reads.given < 1099511627777
+    few_last = omega (arith, given_last.few, few.bytes_few, length-append reads.given (place_of unit ∷ []))
+
+    pub bytes_last : unit.bytes.now ≡ unit_bytes es (place_of unit)
+    bytes_last =
+        own ∙ take_all (most_kept cutter) (unit_bytes es (place_of unit))
+        (omega (arith, reads.most, length-take (unit.end - unit.begin) (drop unit.begin es), follows_last.within, few.bytes_few))
+
+    pub short_last : length unit.bytes.now ≤ 1099511627776
+    short_last =
+        let size : length unit.bytes.now ≡ length (unit_bytes es (place_of unit)) = ap (λ (xs : List ℕ). length xs) bytes_last in
+        omega (arith, size, length-take (unit.end - unit.begin) (drop unit.begin es), follows_last.within, few.bytes_few)
+
+    pub passed_last : HasPassed places.pictures.items places.packets.items unit.begin units.times
+    passed_last = passed_later places.pictures.items places.packets.items (end_of 0 reads.given) unit.begin units.times follows_last.begun reads.units.passed
+
+    pub possible_last : IfSome units.kept.last IsPossible
+    possible_last = possible_always packets reads.given units.kept few (omega (arith, few_last)) always
+
+    module _ (behind : PassedUnits) (result : Result (Option TimedPicture) ProgramFault) (read : IsReadAs places unit true units.kept.last result) where
+      abbrev earlier : List TimedPicture
+      earlier = all_earlier [] always.pictures
+
+      keep_all : Keep es ps reads.given always.pictures units.kept
+      keep_all = subst (λ (qs : List PesUnit). Keep (joined qs) (placed_from 0 qs) reads.given always.pictures units.kept) (append-nil packets) (always.keep [])
+
+      stated_all : AreStatedTo always.count (end_of 0 reads.given) es ps
+      stated_all = subst (λ (qs : List PesUnit). AreStatedTo always.count (end_of 0 reads.given) (joined qs) (placed_from 0 qs)) (append-nil packets) (always.stated [])
+
+      nearest_all : nearest earlier ≡ units.kept.last
+      nearest_all = nearest_last [] always.pictures ∙ sym keep_all.last_is
+
+      found_all : MatchResult result (IsFound es ps earlier units.kept.last (timed_as unit read.times true)) (IsNotFound es ps units.kept.last (timed_as unit read.times true))
+      found_all =
+          read.found es ps earlier bytes_last nearest_all (last_tells es ps [] reads.given always.pictures keep_all.in_order tt) (read.times_are packets reads.stand follows_last.within)
+
+      next_all : (picture : TimedPicture) → result ≡ Ok (Some picture) → IsNext es ps earlier (place_of unit) picture
+      next_all picture is =
+          subst (λ (r : Result (Option TimedPicture) ProgramFault). MatchResult r (IsFound es ps earlier units.kept.last (timed_as unit read.times true))
+          (IsNotFound es ps units.kept.last (timed_as unit read.times true))) is found_all
+
+      -- it is a picture
+      kept_some : (picture : TimedPicture) → result ≡ Ok (Some picture) → IsKeptAs units.kept (place_of unit) (Some picture) behind.kept
+          → AreUnitsKept es ps (reads.given ++ place_of unit ∷ []) behind.kept
+      kept_some picture is kept =
+          let next = next_all picture is in
+          let count = count_behind always.count (decoding_time picture.times) in
+          let stated : AreStatedTo count unit.end es ps =
+          stated_more always.count (end_of 0 reads.given) unit.begin unit.end es ps picture.times follows_last.begun follows_last.order next.times_are stated_all in
+          let count_few : count ≤ 4000000 =
+          stated_few packets count unit.end few (subst (λ (qs : List PesUnit). AreStatedTo count unit.end (joined qs) (placed_from 0 qs)) (sym (append-nil packets)) stated) in
+          let range : IsInRange (decoding_time picture.times) =
+          subst (λ (t : Times). IsInRange (decoding_time t)) (sym next.times_are) (range_of_unit es ps (place_of unit) (placed_times 0 packets)) in
+          let more =
+          keep_next es ps reads.given always.pictures (place_of unit) picture units.kept behind.kept always.count count (length reads.given) count_few (omega (arith, few_last)) range possible_last
+          keep_all always.near (step_is always.count (decoding_time picture.times)) next kept.0 kept.1 kept.2 in record {
+            units = reads.given ++ place_of unit ∷ [];
+            pictures = always.pictures ++ picture ∷ [];
+            kept_are = AreKept.all refl more.keep.in_order (kept.3 ∙ always.dropped);
+            keep = more.keep;
+          }
+
+      -- it is dropped
+      kept_none : result ≡ Ok None → IsKeptAs units.kept (place_of unit) None behind.kept → AreUnitsKept es ps (reads.given ++ place_of unit ∷ []) behind.kept
+      kept_none is kept =
+          let broken = subst (λ (r : Result (Option TimedPicture) ProgramFault). MatchResult r (IsFound es ps earlier units.kept.last (timed_as unit read.times true))
+          (IsNotFound es ps units.kept.last (timed_as unit read.times true))) is found_all in
+          let own_broken : IsBroken es (last_of always.pictures) (place_of unit) broken.1 broken.2 =
+          subst (λ (b : Option TimedPicture). IsBroken es b (place_of unit) broken.1 broken.2) keep_all.last_is broken.3 in record {
+            units = reads.given;
+            pictures = always.pictures;
+            kept_are = AreKept.but_last (place_of unit) broken.1 broken.2 refl keep_all.in_order own_broken kept.3;
+            keep = record {
+              in_order = keep_all.in_order;
+              rows = subst (AreRows reads.given always.pictures) (sym kept.0) keep_all.rows;
+              first_is = kept.1 ∙ keep_all.first_is;
+              first_near = subst (λ (f : Option TimedPicture). IfSome f (λ picture. IsNear 0 picture.stated)) (sym kept.1) keep_all.first_near;
+              last_is = kept.2 ∙ keep_all.last_is;
+              ticks = subst (All (λ (row : KeptUnit). IsTime row.ticks)) (sym kept.0) keep_all.ticks;
+            };
+          }
+
+      pub kept_end : (found : Option TimedPicture) → result ≡ Ok found → IsKeptAs units.kept (place_of unit) found behind.kept
+          → AreUnitsKept es ps (reads.given ++ place_of unit ∷ []) behind.kept
+      kept_end None is kept = kept_none is kept
+      kept_end (Some picture) is kept = kept_some picture is kept
+
+      -- or it is refused
+      pub refused_end : (fault : ProgramFault) → result ≡ Err fault → (fault ≡ OutOfMemory) ⊎ IsUnitsFault es ps (reads.given ++ place_of unit ∷ []) fault
+      refused_end fault is = by_fault (subst (λ (r : Result (Option TimedPicture) ProgramFault). MatchResult r (IsFound es ps earlier units.kept.last (timed_as unit read.times true))
+      (IsNotFound es ps units.kept.last (timed_as unit read.times true))) is found_all)
+        where
+          by_fault : (fault ≡ OutOfMemory) ⊎ IsUnitRefused es ps units.kept.last (place_of unit) true fault
+              → (fault ≡ OutOfMemory) ⊎ IsUnitsFault es ps (reads.given ++ place_of unit ∷ []) fault
+          by_fault (inl memory) = inl memory
+          by_fault (inr refused) = inr (record {
+            before = reads.given;
+            unit = place_of unit;
+            more = [];
+            split = refl;
+            pictures = always.pictures;
+            in_order = keep_all.in_order;
+            refused = subst (λ (b : Option TimedPicture). IsUnitRefused es ps b (place_of unit) true fault) keep_all.last_is refused;
+          })
+
+      -- the sizes of all
+      pub sized_end : (found : Option TimedPicture) → result ≡ Ok found → IsKeptAs units.kept (place_of unit) found behind.kept → behind.wanted ≡ units.wanted
+          → IsSizedFound (state_behind units.kept.last) unit.bytes.now units.wanted.coarser.now units.wanted.are_wanted units.sizes.items behind.sizes.items found
+          → units.wanted.are_wanted ≡ true → AreUnitSizes es units.wanted.coarser.now None (map kept_at behind.kept.units.items) behind.sizes.items
+      sized_end None is kept wanted sized want =
+          let so_far = subst (λ (qs : List PesUnit). AreSizedSoFar (joined qs) units.wanted.coarser.now (state_behind units.kept.last) (map kept_at units.kept.units.items) units.sizes.items)
+          (append-nil packets) (reads.units.sized want []) in
+          subst (λ (ss : List UnitSizes). AreUnitSizes es units.wanted.coarser.now None (map kept_at behind.kept.units.items) ss) (sym sized)
+          (subst (λ (rows : List KeptUnit). AreUnitSizes es units.wanted.coarser.now None (map kept_at rows) units.sizes.items) (sym kept.0)
+          (sized_all es units.wanted.coarser.now (state_behind units.kept.last) (map kept_at units.kept.units.items) units.sizes.items so_far))
+      sized_end (Some picture) is kept wanted sized want =
+          let so_far : (units.wanted.are_wanted ≡ true → AreSizedSoFar es units.wanted.coarser.now (state_behind units.kept.last) (map kept_at units.kept.units.items) units.sizes.items) =
+          λ want. subst (λ (qs : List PesUnit). AreSizedSoFar (joined qs) units.wanted.coarser.now (state_behind units.kept.last) (map kept_at units.kept.units.items) units.sizes.items)
+          (append-nil packets) (reads.units.sized want []) in
+          let own_sized : IsSizedBehind (state_behind units.kept.last) (unit_bytes es (place_of unit)) units.wanted.coarser.now units.wanted.are_wanted units.sizes.items behind.sizes.items =
+          subst (λ (xs : List ℕ). IsSizedBehind (state_behind units.kept.last) xs units.wanted.coarser.now units.wanted.are_wanted units.sizes.items behind.sizes.items) bytes_last sized in
+          sized_all es units.wanted.coarser.now (state_behind behind.kept.last) (map kept_at behind.kept.units.items) behind.sizes.items
+          (sized_more es es ps units.wanted.coarser.now units.wanted.are_wanted earlier units.kept.last (place_of unit) picture units.kept behind.kept units.sizes.items behind.sizes.items refl refl
+          nearest_all follows_last.order follows_last.within (next_all picture is) own_sized kept.0 kept.2 so_far want)
+
+-- ---- what is answered
+
+module _ (demuxed : Demuxed) (packets : List PesUnit) (taken_is : taken true demuxed.video ≡ packets) (sound : AreSound true demuxed.video) where
+  -- a unit was refused
+  pub answer_refused : (fault : ProgramFault) → AreRefused packets fault → IsDemuxedRefused demuxed fault
+  answer_refused fault refused =
+      let all : HasUnitFault (joined packets) (placed_from 0 packets) fault =
+      subst (λ (ps : List PesUnit). HasUnitFault (joined ps) (placed_from 0 ps) fault) (append-nil packets) (refused []) in
+      let own : HasUnitFault (video_bytes demuxed) (video_packets demuxed) fault = subst (λ (ps : List PesUnit). HasUnitFault (joined ps) (placed_from 0 ps) fault) (sym taken_is) all in
+      IsDemuxedRefused.bad_unit own.units (record { sound = sound; units_are = own.units_are }) own.fault_is
+
+  -- no sequence header stands
+  pub answer_none : cut_units (joined packets) ≡ None → IsDemuxedRefused demuxed (Refused kinds.NoSequence 0)
+  answer_none none = IsDemuxedRefused.no_sequence (sound, inl (ap (λ (ps : List PesUnit). cut_units (joined ps)) taken_is ∙ none)) refl
+
+  -- the last unit is refused
+  pub answer_last : (units : Units) (fault : ProgramFault) → cut_units (joined packets) ≡ Some units
+      → (fault ≡ OutOfMemory) ⊎ IsUnitsFault (joined packets) (placed_from 0 packets) units.cuts fault → (fault ≡ OutOfMemory) ⊎ IsDemuxedRefused demuxed fault
+  answer_last units fault units_are (inl memory) = inl memory
+  answer_last units fault units_are (inr refused) =
+      inr (IsDemuxedRefused.bad_unit units (record { sound = sound; units_are = ap (λ (ps : List PesUnit). cut_units (joined ps)) taken_is ∙ units_are })
+      (subst (λ (ps : List PesUnit). IsUnitsFault (joined ps) (placed_from 0 ps) units.cuts fault) (sym taken_is) refused))
+
+  -- all units are read
+  pub answer_units : (units : Units) (read : PassedUnits) (dropped pes_dropped : ℕ) (result : Result WalkedVideo ProgramFault) → cut_units (joined packets) ≡ Some units
+      → AreUnitsKept (joined packets) (placed_from 0 packets) units.cuts read.kept → dropped ≡ units.dropped → pes_dropped ≡ packets_dropped true demuxed.video
+      → MatchResult result (IsVideoOf read dropped pes_dropped) (λ fault. (read.kept.first ≡ None) × (fault ≡ Refused kinds.NoSequence 0))
+      → MatchResult result (IsVideoWalked demuxed) (λ fault. (fault ≡ OutOfMemory) ⊎ IsDemuxedRefused demuxed fault)
+  answer_units units read dropped pes_dropped (Ok video) units_are is dropped_is pes_is walked =
+      let begins = first_some is.pictures video.first (sym is.keep.first_is ∙ walked.first_is) in record {
+        kept = is.units;
+        pictures = is.pictures;
+        has_pictures = record {
+          units = units;
+          has_units = record { sound = sound; units_are = ap (λ (ps : List PesUnit). cut_units (joined ps)) taken_is ∙ units_are };
+          at_end = read.kept.dropped;
+          kept_are = subst (λ (ps : List PesUnit). AreKept (joined ps) (placed_from 0 ps) units.cuts is.units is.pictures read.kept.dropped) (sym taken_is) is.kept_are;
+          later = begins.0;
+          first_is = begins.1;
+          dropped_is = walked.dropped_is ∙ ap (λ (n : ℕ). min (n + read.kept.dropped) (2 ^ 32 - 1)) dropped_is;
+        };
+        rows = subst (AreRows is.units is.pictures) (sym walked.rows_are) is.keep.rows;
+        near = subst (λ (f : Option TimedPicture). IfSome f (λ picture. IsNear 0 picture.stated)) walked.first_is is.keep.first_near;
+        ticks = subst (All (λ (unit : KeptUnit). IsTime unit.ticks)) (sym walked.rows_are) is.keep.ticks;
+        pes_dropped_is = walked.pes_dropped_is ∙ pes_is;
+      }
+  answer_units units read dropped pes_dropped (Err fault) units_are is dropped_is pes_is none =
+      let no_pictures : is.pictures ≡ [] = first_none is.pictures (sym is.keep.first_is ∙ none.0) in
+      let no_units : is.units ≡ [] = none_kept (joined packets) (placed_from 0 packets) [] is.units is.pictures is.keep.in_order no_pictures in
+      let has : HasUnits demuxed units = record { sound = sound; units_are = ap (λ (ps : List PesUnit). cut_units (joined ps)) taken_is ∙ units_are } in
+      inr (subst (IsDemuxedRefused demuxed) (sym none.1)
+      (IsDemuxedRefused.no_sequence
+      (nothing_kept demuxed units is.units is.pictures read.kept.dropped has no_units no_pictures
+      (subst (λ (ps : List PesUnit). AreKept (joined ps) (placed_from 0 ps) units.cuts is.units is.pictures read.kept.dropped) (sym taken_is) is.kept_are)) refl))
