@@ -53,6 +53,7 @@ use Rattle.es_units.proofs.CutterKeeps.{take_sum}
 use Rattle.list_types.specs.Spans.{spans}
 use Rattle.pes_units.specs.declared.times.Times.{Times}
 use Rattle.pes_units.specs.Times.{decoding_time}
+use Rattle.picture_grammar.specs.Refusal.{Refusal}
 use Rattle.ts_demux.specs.declared.demuxed.PesUnit.{PesUnit}
 use Rattle.program_reader.specs.declared.kept_units.KeptUnit.{KeptUnit}
 use Rattle.program_reader.specs.declared.kept_units.KeptUnits.{KeptUnits}
@@ -69,7 +70,7 @@ use Rattle.program_reader.specs.Intervals.{nearest}
 use Rattle.program_reader.specs.Packets.{joined, placed_from}
 use Rattle.program_reader.specs.PictureTimes.{times_of_unit}
 use Rattle.program_reader.specs.TimesWalk.{HasPassed}
-use Rattle.program_reader.specs.Units.{IsNext, IsUnitRefused, is_none_left, last_of, state_behind, unit_bytes}
+use Rattle.program_reader.specs.Units.{IsBroken, IsNext, IsUnitRefused, is_none_left, last_of, state_behind, unit_bytes}
 use Rattle.program_reader.specs.VideoWalk.{AreFew, AreRefused, HasUnitFault}
 use Rattle.program_reader.specs.Private.KeptUnits.{row_of, Fits, IsPictureNear, Keep}
 use Rattle.program_reader.specs.Private.PassedVideo.{Stand, IsKeptAs, timed_as, IsReadAs, end_of, AreStatedTo, KeepAlways, AreSizedAlways, HavePassed}
@@ -218,7 +219,7 @@ possible_always packets given kept few units_few always = by_last kept.last alwa
 module _ (packets : List PesUnit) (given : List (ℕ × ℕ)) (unit : ℕ × ℕ) (picture : TimedPicture) (old new : KeptUnits) (few : AreFew packets) (units_few : length given < 1099511627777)
     (follows : Follows (length (joined packets)) (end_of 0 given) unit) (always : KeepAlways packets given old) (kept : IsKeptAs old unit (Some picture) new)
     (next : (more : List PesUnit) → IsNext (joined (packets ++ more)) (placed_from 0 (packets ++ more)) (all_earlier [] always.pictures) unit picture) where
-  next_count : ℕ
+  abbrev next_count : ℕ
   next_count = count_behind always.count (decoding_time picture.times)
 
   stated_next : (more : List PesUnit) → AreStatedTo next_count unit.1 (joined (packets ++ more)) (placed_from 0 (packets ++ more))
@@ -281,7 +282,7 @@ module _ (packets : List PesUnit) (places : VideoPlaces) (given : List (ℕ × �
   -- it isn't dropped
   pub some_here : result ≡ Ok None → ⊥
   some_here is =
-      let none = subst (λ (r : Result (Option TimedPicture) ProgramFault). MatchResult r (IsFound (joined (packets ++ [])) (placed_from 0 (packets ++ [])) earlier_here old.last (timed_as unit read.times false))
+      let none : (false ≡ true) × (refusal : Refusal) × (at : ℕ) × IsBroken (joined (packets ++ [])) old.last (place_of unit) refusal at = subst (λ (r : Result (Option TimedPicture) ProgramFault). MatchResult r (IsFound (joined (packets ++ [])) (placed_from 0 (packets ++ [])) earlier_here old.last (timed_as unit read.times false))
       (IsNotFound (joined (packets ++ [])) (placed_from 0 (packets ++ [])) old.last (timed_as unit read.times false))) is (found_here []) in
       let last : false ≡ true = none.0 in
       cc

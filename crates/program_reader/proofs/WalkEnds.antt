@@ -31,6 +31,7 @@ use Rattle.std.proofs.Common.{
   Err,
   IfOk,
   MatchResult,
+  if◌then◌else◌,
   refl,
   sym,
   ap,
@@ -45,9 +46,12 @@ use Rattle.std.proofs.lemmas.List.Elements.{All-nil}
 use Rattle.es_units.specs.declared.unit_cutter.CutUnit.{CutUnit}
 use Rattle.es_units.specs.declared.unit_cutter.UnitCutter.{UnitCutter}
 use Rattle.es_units.specs.declared.units.Units.{Units}
-use Rattle.es_units.specs.UnitCutter.{HasCut, front_of, most_kept, place_of, units_dropped}
+use Rattle.es_units.specs.UnitCutter.{BeginWith, HasCut, front_of, most_kept, place_of, units_dropped}
 use Rattle.es_units.specs.Units.{cut_units}
+use Rattle.pes_units.specs.declared.pes_header.PesHeader.{PesHeader}
 use Rattle.pes_units.specs.declared.times.Times.{Times}
+use Rattle.pes_units.specs.PesHeader.{pes_fields_of}
+use Rattle.pes_units.specs.PesPackets.{is_dropped, last_refusal, packet_refusal}
 use Rattle.pes_units.specs.Times.{decoding_time}
 use Rattle.picture_grammar.specs.Refusal.{Refusal}
 use Rattle.ts_demux.specs.declared.demuxed.Demuxed.{Demuxed}
@@ -67,7 +71,7 @@ use Rattle.program_reader.specs.declared.unit_sizes.UnitSizes.{UnitSizes}
 use Rattle.program_reader.specs.declared.video_places.VideoPlaces.{VideoPlaces}
 use Rattle.program_reader.specs.declared.video_walk.WalkedVideo.{WalkedVideo}
 use Rattle.program_reader.specs.Intervals.{nearest}
-use Rattle.program_reader.specs.Packets.{AreSound, joined, packets_dropped, placed_from, taken}
+use Rattle.program_reader.specs.Packets.{AreSound, IsPacketFault, joined, packets_dropped, placed_from, taken}
 use Rattle.program_reader.specs.Programs.{HasUnits, IsDemuxedRefused, video_bytes, video_packets}
 use Rattle.program_reader.specs.Sizes.{AreUnitSizes}
 use Rattle.program_reader.specs.TimesWalk.{HasPassed}
@@ -78,13 +82,16 @@ use Rattle.program_reader.specs.Private.Dues.{IsTime}
 use Rattle.program_reader.specs.Private.KeptUnits.{AreRows, AreUnitsKept, IsPictureNear, Keep}
 use Rattle.program_reader.specs.Private.PassedVideo.{Stand, IsKeptAs, timed_as, IsReadAs, end_of, AreStatedTo, KeepAlways, AreSizedAlways, HavePassed, ReadsTo}
 use Rattle.program_reader.specs.Private.SizedUnits.{AreSizedSoFar, IsSizedBehind, IsSizedFound, kept_at}
+use Rattle.program_reader.specs.Private.TakenPackets.{IsFaultOf}
 use Rattle.program_reader.specs.Private.TimedPictures.{IsFound, IsNotFound, IsPossible}
 use Rattle.program_reader.proofs.KeepLemmas.{all_earlier, keep_next, last_tells, nearest_last, range_of_unit}
 use Rattle.program_reader.proofs.PassedLemmas.{AreGiven, Follows, fits_last, given_of, passed_later, possible_always, stated_few}
 use Rattle.program_reader.proofs.ProgramLemmas.{first_none, first_some, none_kept, nothing_kept}
+use Rattle.program_reader.proofs.SameTimes.{longer}
 use Rattle.program_reader.proofs.SizedLemmas.{sized_all, sized_more, sized_none}
 use Rattle.program_reader.proofs.StatedTimes.{count_behind, stated_more, stated_none, step_is}
 use Rattle.program_reader.proofs.StreamLemmas.{placed_times}
+use Rattle.program_reader.proofs.TakenLemmas.{IsWhole, count_dropped, count_taken, dropped_of, read_none, read_some, refused_last, sound_of, taken_of}
 use Rattle.program_reader.proofs.TimeRange.{IsInRange}
 
 -- ---- before the first packet
@@ -98,7 +105,7 @@ reads_none places cutter units stand cut most none first last dropped sizes pass
   given = [];
   cut = cut;
   most = most;
-  units = record {
+  read = record {
     keep = record {
       pictures = [];
       keep = λ more. record {
@@ -134,7 +141,7 @@ module _ (packets : List PesUnit) (places : VideoPlaces) (cutter : UnitCutter) (
   cut_all = subst (λ (xs : List ℕ). HasCut xs reads.given cutter) (take_all (length es) es (omega arith)) reads.cut
 
   abbrev always : KeepAlways packets reads.given units.kept
-  always = reads.units.keep
+  always = reads.read.keep
 
   module _ (unit : CutUnit)
       (cut_is : cut_units es ≡ Some (let u : Units = record { dropped = units_dropped cutter; cuts = reads.given ++ place_of unit ∷ [] } in u))
@@ -142,7 +149,9 @@ module _ (packets : List PesUnit) (places : VideoPlaces) (cutter : UnitCutter) (
     given_last : AreGiven es (reads.given ++ place_of unit ∷ [])
     given_last =
         given_of es (reads.given ++ place_of unit ∷ [])
-        (rw cut_is ([], sym (append-nil (reads.given ++ place_of unit ∷ []))))
+        (let all : BeginWith (reads.given ++ place_of unit ∷ []) (Some (let u : Units = record { dropped = units_dropped cutter; cuts = reads.given ++ place_of unit ∷ [] } in u)) =
+        ([], sym (append-nil (reads.given ++ place_of unit ∷ []))) in
+        subst (BeginWith (reads.given ++ place_of unit ∷ [])) (sym cut_is) all)
 
     pub follows_last : Follows (length es) (end_of 0 reads.given) (place_of unit)
     follows_last = fits_last (length es) 0 reads.given (place_of unit) given_last.fits
@@ -150,18 +159,23 @@ module _ (packets : List PesUnit) (places : VideoPlaces) (cutter : UnitCutter) (
     pub few_last : length reads.given < 1099511627777
     few_last = omega (arith, given_last.few, few.bytes_few, length-append reads.given (place_of unit ∷ []))
 
+    size_last : length (unit_bytes es (place_of unit)) ≤ 1099511627776
+    size_last =
+        let size : length (unit_bytes es (place_of unit)) ≡ min (unit.end - unit.begin) (length (drop unit.begin es)) = length-take (unit.end - unit.begin) (drop unit.begin es) in
+        omega (arith, size, follows_last.within, few.bytes_few)
+
     pub bytes_last : unit.bytes.now ≡ unit_bytes es (place_of unit)
     bytes_last =
-        own ∙ take_all (most_kept cutter) (unit_bytes es (place_of unit))
-        (omega (arith, reads.most, length-take (unit.end - unit.begin) (drop unit.begin es), follows_last.within, few.bytes_few))
+        let most : most_kept cutter ≡ 1099511627776 = reads.most in
+        own ∙ take_all (most_kept cutter) (unit_bytes es (place_of unit)) (omega (arith, most, size_last))
 
     pub short_last : length unit.bytes.now ≤ 1099511627776
     short_last =
-        let size : length unit.bytes.now ≡ length (unit_bytes es (place_of unit)) = ap (λ (xs : List ℕ). length xs) bytes_last in
-        omega (arith, size, length-take (unit.end - unit.begin) (drop unit.begin es), follows_last.within, few.bytes_few)
+        let same : length unit.bytes.now ≡ length (unit_bytes es (place_of unit)) = ap (λ (xs : List ℕ). length xs) bytes_last in
+        omega (arith, same, size_last)
 
     pub passed_last : HasPassed places.pictures.items places.packets.items unit.begin units.times
-    passed_last = passed_later places.pictures.items places.packets.items (end_of 0 reads.given) unit.begin units.times follows_last.begun reads.units.passed
+    passed_last = passed_later places.pictures.items places.packets.items (end_of 0 reads.given) unit.begin units.times follows_last.begun reads.read.passed
 
     pub possible_last : IfSome units.kept.last IsPossible
     possible_last = possible_always packets reads.given units.kept few (omega (arith, few_last)) always
@@ -212,7 +226,7 @@ module _ (packets : List PesUnit) (places : VideoPlaces) (cutter : UnitCutter) (
       -- it is dropped
       kept_none : result ≡ Ok None → IsKeptAs units.kept (place_of unit) None behind.kept → AreUnitsKept es ps (reads.given ++ place_of unit ∷ []) behind.kept
       kept_none is kept =
-          let broken = subst (λ (r : Result (Option TimedPicture) ProgramFault). MatchResult r (IsFound es ps earlier units.kept.last (timed_as unit read.times true))
+          let broken : (true ≡ true) × (refusal : Refusal) × (at : ℕ) × IsBroken es units.kept.last (place_of unit) refusal at = subst (λ (r : Result (Option TimedPicture) ProgramFault). MatchResult r (IsFound es ps earlier units.kept.last (timed_as unit read.times true))
           (IsNotFound es ps units.kept.last (timed_as unit read.times true))) is found_all in
           let own_broken : IsBroken es (last_of always.pictures) (place_of unit) broken.1 broken.2 =
           subst (λ (b : Option TimedPicture). IsBroken es b (place_of unit) broken.1 broken.2) keep_all.last_is broken.3 in record {
@@ -258,14 +272,14 @@ module _ (packets : List PesUnit) (places : VideoPlaces) (cutter : UnitCutter) (
           → units.wanted.are_wanted ≡ true → AreUnitSizes es units.wanted.coarser.now None (map kept_at behind.kept.units.items) behind.sizes.items
       sized_end None is kept wanted sized want =
           let so_far = subst (λ (qs : List PesUnit). AreSizedSoFar (joined qs) units.wanted.coarser.now (state_behind units.kept.last) (map kept_at units.kept.units.items) units.sizes.items)
-          (append-nil packets) (reads.units.sized want []) in
+          (append-nil packets) (reads.read.sized want []) in
           subst (λ (ss : List UnitSizes). AreUnitSizes es units.wanted.coarser.now None (map kept_at behind.kept.units.items) ss) (sym sized)
           (subst (λ (rows : List KeptUnit). AreUnitSizes es units.wanted.coarser.now None (map kept_at rows) units.sizes.items) (sym kept.0)
           (sized_all es units.wanted.coarser.now (state_behind units.kept.last) (map kept_at units.kept.units.items) units.sizes.items so_far))
       sized_end (Some picture) is kept wanted sized want =
           let so_far : (units.wanted.are_wanted ≡ true → AreSizedSoFar es units.wanted.coarser.now (state_behind units.kept.last) (map kept_at units.kept.units.items) units.sizes.items) =
           λ want. subst (λ (qs : List PesUnit). AreSizedSoFar (joined qs) units.wanted.coarser.now (state_behind units.kept.last) (map kept_at units.kept.units.items) units.sizes.items)
-          (append-nil packets) (reads.units.sized want []) in
+          (append-nil packets) (reads.read.sized want []) in
           let own_sized : IsSizedBehind (state_behind units.kept.last) (unit_bytes es (place_of unit)) units.wanted.coarser.now units.wanted.are_wanted units.sizes.items behind.sizes.items =
           subst (λ (xs : List ℕ). IsSizedBehind (state_behind units.kept.last) xs units.wanted.coarser.now units.wanted.are_wanted units.sizes.items behind.sizes.items) bytes_last sized in
           sized_all es units.wanted.coarser.now (state_behind behind.kept.last) (map kept_at behind.kept.units.items) behind.sizes.items
@@ -326,3 +340,78 @@ module _ (demuxed : Demuxed) (packets : List PesUnit) (taken_is : taken true dem
       (IsDemuxedRefused.no_sequence
       (nothing_kept demuxed units is.units is.pictures read.kept.dropped has no_units no_pictures
       (subst (λ (ps : List PesUnit). AreKept (joined ps) (placed_from 0 ps) units.cuts is.units is.pictures read.kept.dropped) (sym taken_is) is.kept_are)) refl))
+
+-- ---- the last packet
+
+-- fewer packets are few too
+pub few_front : (packets : List PesUnit) (last : PesUnit) → AreFew (packets ++ last ∷ []) → AreFew packets
+few_front packets last few = record {
+  packets_few = omega (arith, few.packets_few, length-append packets (last ∷ []));
+  bytes_few = omega (arith, few.bytes_few, longer packets (last ∷ []));
+}
+
+-- what a whole video's packets are, by its last one
+pub record EndsWith (packets : List PesUnit) (dropped : ℕ) (all : List PesUnit) : Type 0 where
+  pub sound : AreSound true all
+  pub taken_are : taken true all ≡ packets
+  pub dropped_are : dropped ≡ packets_dropped true all
+
+pub ends_none : (packets all : List PesUnit) → packets ≡ [] → all ≡ [] → EndsWith packets 0 all
+ends_none packets all none empty = record {
+  sound = subst (AreSound true) (sym empty) tt;
+  taken_are = ap (taken true) empty ∙ sym none;
+  dropped_are = sym (ap (packets_dropped true) empty);
+}
+
+-- the header of a last packet tells whether it is dropped
+pub ends_some : (packets all : List PesUnit) (last : PesUnit) (found : Option PesHeader) (header : PesHeader) → All (IsWhole true) packets → all ≡ packets ++ last ∷ []
+    → last_refusal true last.bytes ≡ None → found ≡ (if is_dropped true last.bytes then None else Some (pes_fields_of last.bytes)) → found ≡ Some header
+    → EndsWith (packets ++ last ∷ []) 0 all × (header ≡ pes_fields_of last.bytes)
+ends_some packets all last found header whole all_are sound found_is some =
+    let kept = read_some (is_dropped true last.bytes) found header (pes_fields_of last.bytes) found_is some in (
+      record {
+        sound = subst (AreSound true) (sym all_are) (sound_of true packets last whole sound);
+        taken_are = ap (taken true) all_are ∙ taken_of true packets last ∙ ap (λ (more : List PesUnit). packets ++ more) (taken_here (is_dropped true last.bytes) kept.0);
+        dropped_are = count_taken (is_dropped true last.bytes) kept.0 ∙ sym (ap (packets_dropped true) all_are ∙ dropped_of true packets last);
+      },
+      kept.1,
+    )
+  where
+    taken_here : (dropped : Bool) → dropped ≡ false → (if dropped then [] else last ∷ []) ≡ last ∷ []
+    taken_here dropped is = rw is refl
+
+pub ends_dropped : (packets all : List PesUnit) (last : PesUnit) (found : Option PesHeader) → All (IsWhole true) packets → all ≡ packets ++ last ∷ [] → last_refusal true last.bytes ≡ None
+    → found ≡ (if is_dropped true last.bytes then None else Some (pes_fields_of last.bytes)) → found ≡ None → EndsWith packets 1 all
+ends_dropped packets all last found whole all_are sound found_is none =
+    let cut = read_none (is_dropped true last.bytes) found (pes_fields_of last.bytes) found_is none in record {
+      sound = subst (AreSound true) (sym all_are) (sound_of true packets last whole sound);
+      taken_are = ap (taken true) all_are ∙ taken_of true packets last ∙ ap (λ (more : List PesUnit). packets ++ more) (taken_here (is_dropped true last.bytes) cut) ∙ append-nil packets;
+      dropped_are = count_dropped (is_dropped true last.bytes) cut ∙ sym (ap (packets_dropped true) all_are ∙ dropped_of true packets last);
+    }
+  where
+    taken_here : (dropped : Bool) → dropped ≡ true → (if dropped then [] else last ∷ []) ≡ []
+    taken_here dropped is = rw is refl
+
+-- a packet that another one follows has this fault
+pub fault_whole : (packets : List PesUnit) (packet : PesUnit) (fault : ProgramFault) → All (IsWhole true) packets → IsFaultOf packet.at (packet_refusal true packet.bytes) fault
+    → (fault ≡ OutOfMemory) ⊎ ((next : PesUnit) (more : List PesUnit) → IsPacketFault true (packets ++ packet ∷ next ∷ more) fault)
+fault_whole packets packet fault whole (inl memory) = inl memory
+fault_whole packets packet fault whole (inr found) = inr (λ next more. record {
+  before = packets;
+  packet = packet;
+  more = next ∷ more;
+  split = refl;
+  sound = whole;
+  found = found.0;
+  refused = found.1;
+  fault_is = found.2;
+})
+
+-- the last packet has this fault
+pub fault_last : (demuxed : Demuxed) (packets : List PesUnit) (last : PesUnit) (fault : ProgramFault) → demuxed.video ≡ packets ++ last ∷ [] → All (IsWhole true) packets
+    → IsFaultOf last.at (last_refusal true last.bytes) fault → (fault ≡ OutOfMemory) ⊎ IsDemuxedRefused demuxed fault
+fault_last demuxed packets last fault all_are whole refused = by_fault (refused_last true demuxed.video packets last fault all_are whole refused)
+  where
+    by_fault : (fault ≡ OutOfMemory) ⊎ IsPacketFault true demuxed.video fault → (fault ≡ OutOfMemory) ⊎ IsDemuxedRefused demuxed fault
+    by_fault (inl memory) = inl memory
+    by_fault (inr found) = inr (IsDemuxedRefused.bad_packet found)

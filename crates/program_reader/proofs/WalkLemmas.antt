@@ -161,7 +161,7 @@ reads_longer packets packet old new cutter units behind reads =
       given = reads.given;
       cut = subst (λ (xs : List ℕ). HasCut xs reads.given cutter) same reads.cut;
       most = reads.most;
-      units = have_longer packets packet reads.given old new units reads.stand behind reads.units;
+      read = have_longer packets packet reads.given old new units reads.stand behind reads.read;
     }
 
 -- what is left of its bytes is that packet's payload
@@ -203,7 +203,7 @@ module _ (packets : List PesUnit) (at : ℕ) (places : VideoPlaces) (old new : U
     given = reads.given;
     cut = subst (λ (us : List (ℕ × ℕ)). HasCut here us new) (ap (λ (us : List (ℕ × ℕ)). reads.given ++ us) none ∙ append-nil reads.given) cut_here;
     most = most ∙ reads.most;
-    units = reads.units;
+    read = reads.read;
   }
 
   -- whatever packets follow, the units begin with those that are given
@@ -236,7 +236,9 @@ module _ (packets : List PesUnit) (at : ℕ) (places : VideoPlaces) (old new : U
         omega (arith, given_here.few, here_size, upto, few.bytes_few, length-append reads.given (place_of unit ∷ []), ended_before here (reads.given ++ ended_of new) new (place_of unit) cut_here ended)
 
     bytes_size : length (slice_range here unit.begin unit.end) ≤ 1099511627776
-    bytes_size = omega (arith, length-take (unit.end - unit.begin) (drop unit.begin here), follows.within, few.bytes_few)
+    bytes_size =
+        let size : length (slice_range here unit.begin unit.end) ≡ min (unit.end - unit.begin) (length (drop unit.begin here)) = length-take (unit.end - unit.begin) (drop unit.begin here) in
+        omega (arith, size, follows.within, few.bytes_few)
 
     pub bytes_are : unit.bytes.now ≡ unit_bytes (joined packets) (place_of unit)
     bytes_are =
@@ -249,14 +251,16 @@ module _ (packets : List PesUnit) (at : ℕ) (places : VideoPlaces) (old new : U
 
     pub bytes_short : length unit.bytes.now ≤ 1099511627776
     bytes_short =
-        let size : length unit.bytes.now ≡ length (unit_bytes (joined packets) (place_of unit)) = ap (λ (xs : List ℕ). length xs) bytes_are in
-        omega (arith, size, length-take (unit.end - unit.begin) (drop unit.begin (joined packets)), follows.within, few.bytes_few)
+        let same : length unit.bytes.now ≡ length (unit_bytes (joined packets) (place_of unit)) = ap (λ (xs : List ℕ). length xs) bytes_are in
+        let size : length (unit_bytes (joined packets) (place_of unit)) ≡ min (unit.end - unit.begin) (length (drop unit.begin (joined packets))) =
+        length-take (unit.end - unit.begin) (drop unit.begin (joined packets)) in
+        omega (arith, same, size, follows.within, few.bytes_few)
 
     pub passed_here : HasPassed places.pictures.items places.packets.items unit.begin units.times
-    passed_here = passed_later places.pictures.items places.packets.items (end_of 0 reads.given) unit.begin units.times follows.begun reads.units.passed
+    passed_here = passed_later places.pictures.items places.packets.items (end_of 0 reads.given) unit.begin units.times follows.begun reads.read.passed
 
     pub possible_here : IfSome units.kept.last IsPossible
-    possible_here = possible_always packets reads.given units.kept few (omega (arith, units_few)) reads.units.keep
+    possible_here = possible_always packets reads.given units.kept few (omega (arith, units_few)) reads.read.keep
 
     module _ (behind : PassedUnits) (result : Result (Option TimedPicture) ProgramFault) (read : IsReadAs places unit false units.kept.last result) where
       -- it is kept
@@ -269,23 +273,23 @@ module _ (packets : List PesUnit) (at : ℕ) (places : VideoPlaces) (old new : U
         given = reads.given ++ place_of unit ∷ [];
         cut = subst (λ (us : List (ℕ × ℕ)). HasCut here (reads.given ++ us) new) ended cut_here;
         most = most ∙ reads.most;
-        units = record {
-          keep = keep_more packets reads.given (place_of unit) picture units.kept behind.kept few units_few follows reads.units.keep kept
-              (next_here packets places reads.given units.kept unit result reads.stand reads.units.keep read follows ends_before bytes_are picture is);
-          sized = sized_here packets places reads.given units.kept unit result reads.stand reads.units.keep read follows ends_before bytes_are picture units behind refl is kept wanted sized
-              reads.units.sized;
+        read = record {
+          keep = keep_more packets reads.given (place_of unit) picture units.kept behind.kept few units_few follows reads.read.keep kept
+              (next_here packets places reads.given units.kept unit result reads.stand reads.read.keep read follows ends_before bytes_are picture is);
+          sized = sized_here packets places reads.given units.kept unit result reads.stand reads.read.keep read follows ends_before bytes_are picture units behind refl is kept wanted sized
+              reads.read.sized;
           passed = subst (λ (n : ℕ). HasPassed places.pictures.items places.packets.items n behind.times) (sym (end_push 0 reads.given (place_of unit))) passed;
-          coarser = (let same : length behind.wanted.coarser.now ≡ length units.wanted.coarser.now = ap (λ (w : SizesWanted). length w.coarser.now) wanted in omega (arith, same, reads.units.coarser));
+          coarser = (let same : length behind.wanted.coarser.now ≡ length units.wanted.coarser.now = ap (λ (w : SizesWanted). length w.coarser.now) wanted in omega (arith, same, reads.read.coarser));
         };
       }
 
       pub reads_some : result ≡ Ok None → ⊥
-      reads_some = some_here packets places reads.given units.kept unit result reads.stand reads.units.keep read follows ends_before bytes_are
+      reads_some = some_here packets places reads.given units.kept unit result reads.stand reads.read.keep read follows ends_before bytes_are
 
       -- it is refused
       pub reads_refused : (fault : ProgramFault) → result ≡ Err fault → (fault ≡ OutOfMemory → ⊥) → AreRefused packets fault
       reads_refused fault is some =
-          refused_here packets places reads.given units.kept unit result reads.stand reads.units.keep read follows ends_before bytes_are fault is some
+          refused_here packets places reads.given units.kept unit result reads.stand reads.read.keep read follows ends_before bytes_are fault is some
           (λ more. subst (λ (us : List (ℕ × ℕ)). BeginWith (reads.given ++ us) (cut_units (joined (packets ++ more)))) ended (begins_here more))
           (λ more. omega (arith, ends_before, longer packets more))
 

@@ -1,5 +1,5 @@
 -- What a walk over the PES packets of a video has read of it, and what it answers at its end.
-use Rattle.std.specs.Prelude.{◌≡◌, ℕ, ◌+◌, ◌-◌, ◌^◌, ◌≤◌, min, true, List, ◌++◌, length, All, Option, Some, None}
+use Rattle.std.specs.Prelude.{◌≡◌, ℕ, ◌+◌, ◌-◌, ◌^◌, ◌≤◌, min, true, List, [], ◌∷◌, ◌++◌, length, All, Option, Some, None}
 use Rattle.es_units.specs.declared.units.Units.{Units}
 use Rattle.es_units.specs.Units.{cut_units}
 use Rattle.pes_units.specs.PesPackets.{packet_refusal}
@@ -52,6 +52,11 @@ pub record HasRead (packets : List PesUnit) (walk : VideoWalk) : Type 0 where
   pub reads : Reads packets (length (joined packets)) walk.refused walk
 
 -- ---- at its end
+
+-- these PES packets and the last one are all of a video; there is no last one where there are none
+abbrev pub AreAll : List PesUnit → Option PesUnit → List PesUnit → Type 0
+AreAll packets None all = (packets ≡ []) × (all ≡ [])
+AreAll packets (Some last) all = all ≡ packets ++ last ∷ []
 
 -- a video is that of units which are read, beside which so many units and PES packets are dropped
 pub record IsVideoOf (units : PassedUnits) (units_dropped pes_dropped : ℕ) (video : WalkedVideo) : Type 0 where

@@ -1,7 +1,8 @@
 //! A video read while its PES packets pass: none of its bytes are kept but those of the open unit.
-ghost use Rattle.std.specs.Prelude.{◌≡◌, ◌⊎◌, ℕ, ◌+◌, ◌<◌, ◌≤◌, List, [], ◌∷◌, ◌++◌, length, drop, map, true, None, IfErr, IfOk, OnOk, MatchResult};
-ghost use Rattle.std.specs.Option.{option_copied, option_to_list};
+ghost use Rattle.std.specs.Prelude.{◌≡◌, ◌⊎◌, ℕ, ◌+◌, ◌<◌, ◌≤◌, List, [], ◌∷◌, ◌++◌, length, drop, map, true, None, Some, IfErr, IfOk, OnOk, MatchResult, if◌then◌else◌};
+ghost use Rattle.std.specs.Option.{option_copied};
 ghost use Rattle.pes_units.specs.PesHeader.{pes_fields_of};
+ghost use Rattle.pes_units.specs.PesPackets.{is_dropped, last_refusal, packet_refusal};
 ghost use Rattle.ts_demux.specs.declared.demuxed.Demuxed.{Demuxed};
 ghost use Rattle.ts_demux.specs.declared.demuxed.PesUnit.{PesUnit};
 ghost use Rattle.program_reader.specs.declared.program_fault.ProgramFault.TheVariants.{OutOfMemory, Refused};
@@ -9,8 +10,9 @@ ghost use Rattle.program_reader.specs.declared.program_fault.SourceKind.TheVaria
 ghost use Rattle.program_reader.specs.Packets.{AreSound, IsPacketFault, joined, packets_dropped, taken};
 ghost use Rattle.program_reader.specs.Programs.{IsDemuxedRefused, video_bytes};
 ghost use Rattle.program_reader.specs.Sizes.{AreUnitSizes};
-ghost use Rattle.program_reader.specs.VideoWalk.{AreFew, HasRead, IsVideoOf, IsVideoWalked, Reads, wanted_of};
+ghost use Rattle.program_reader.specs.VideoWalk.{AreAll, AreFew, HasRead, IsVideoOf, IsVideoWalked, Reads, wanted_of};
 ghost use Rattle.program_reader.specs.Private.SizedUnits.{kept_at};
+ghost use Rattle.program_reader.specs.Private.TakenPackets.{IsFaultOf};
 
 use crate::kept_units::KeptUnit;
 use crate::limits::FILE_BYTES_MOST;
@@ -86,21 +88,21 @@ impl<'a> VideoWalk<'a> {
             IfErr result (λ fault. (fault ≡ OutOfMemory) ⊎ ((next : PesUnit) (more : List PesUnit) → IsPacketFault true (packets ++ packet.now ∷ next ∷ more) fault)) }
         ensures wanted { wanted_of self.new ≡ wanted_of self.old }
     {
-        let header = match PesHeader::read_packet(packet.bytes.as_slice(), true) {
+        let header = match whole_header(packet) {
             Ok(header) => header,
-            Err(fault) => return Err(pes_refused(packet.at, fault)),
+            Err(fault) => return Err(fault),
         };
         self.take(packet, header)?;
         Ok(())
     }
 
-    /// Ends the walk behind the last PES packet, if there is any, which the file's end may cut. An error is the video's first refusal, or
-    /// want of memory.
+    /// Ends the walk behind the last PES packet, which the file's end may cut; a video may have none at all. An error is the video's first
+    /// refusal, or want of memory.
     pub fn end(self, last: Option<&PesUnit>) -> Result<WalkedVideo, ProgramFault>
-        requires read { (packets : List PesUnit) × HasRead packets self × AreFew (packets ++ option_to_list (option_copied last)) }
-        ensures video { (packets : List PesUnit) (demuxed : Demuxed) → HasRead packets self → AreFew demuxed.video → demuxed.video ≡ packets ++ option_to_list (option_copied last) →
+        requires read { (packets : List PesUnit) × (all : List PesUnit) × HasRead packets self × AreAll packets (option_copied last) all × AreFew all }
+        ensures video { (packets : List PesUnit) (demuxed : Demuxed) → HasRead packets self → AreAll packets (option_copied last) demuxed.video → AreFew demuxed.video →
             MatchResult result (IsVideoWalked demuxed) (λ fault. (fault ≡ OutOfMemory) ⊎ IsDemuxedRefused demuxed fault) }
-        ensures sizes { (packets : List PesUnit) (demuxed : Demuxed) → HasRead packets self → AreFew demuxed.video → demuxed.video ≡ packets ++ option_to_list (option_copied last) →
+        ensures sizes { (packets : List PesUnit) (demuxed : Demuxed) → HasRead packets self → AreAll packets (option_copied last) demuxed.video → AreFew demuxed.video →
             (wanted_of self).are_wanted ≡ true →
             IfOk result (λ video. AreUnitSizes (video_bytes demuxed) (wanted_of self).coarser.now None (map kept_at video.units.items) video.sizes.items) }
     {
@@ -108,13 +110,13 @@ impl<'a> VideoWalk<'a> {
         let Some(last) = last else {
             return walk.finish(0);
         };
-        match PesHeader::read_last(last.bytes.as_slice(), true) {
+        match last_header(last) {
             Ok(Some(header)) => {
                 walk.take(last, header)?;
                 walk.finish(0)
             }
             Ok(None) => walk.finish(1),
-            Err(fault) => Err(pes_refused(last.at, fault)),
+            Err(fault) => Err(fault),
         }
     }
 
@@ -204,6 +206,30 @@ impl<'a> VideoWalk<'a> {
             Ok(_) => walked_video(units, cutter.dropped(), pes_dropped),
             Err(fault) => Err(fault),
         }
+    }
+}
+
+/// The header of a video's PES packet that another one follows. An error is its fault.
+fn whole_header(packet: &PesUnit) -> Result<PesHeader, ProgramFault>
+    ensures sound { IfOk result (λ _. packet_refusal true packet.now.bytes ≡ None) }
+    ensures header { IfOk result (λ header. header ≡ pes_fields_of packet.now.bytes) }
+    ensures refused { IfErr result (IsFaultOf packet.now.at (packet_refusal true packet.now.bytes)) }
+{
+    match PesHeader::read_packet(packet.bytes.as_slice(), true) {
+        Ok(header) => Ok(header),
+        Err(fault) => Err(pes_refused(packet.at, fault)),
+    }
+}
+
+/// The header of a video's last PES packet, or none where it is dropped. An error is its fault.
+fn last_header(packet: &PesUnit) -> Result<Option<PesHeader>, ProgramFault>
+    ensures sound { IfOk result (λ _. last_refusal true packet.now.bytes ≡ None) }
+    ensures header { IfOk result (λ header. header ≡ (if is_dropped true packet.now.bytes then None else Some (pes_fields_of packet.now.bytes))) }
+    ensures refused { IfErr result (IsFaultOf packet.now.at (last_refusal true packet.now.bytes)) }
+{
+    match PesHeader::read_last(packet.bytes.as_slice(), true) {
+        Ok(header) => Ok(header),
+        Err(fault) => Err(pes_refused(packet.at, fault)),
     }
 }
 

@@ -95,4 +95,4 @@ pub record ReadsTo (packets : List PesUnit) (at : ℕ) (places : VideoPlaces) (c
   pub given : List (ℕ × ℕ)
   pub cut : HasCut (take at (joined packets)) given cutter
   pub most : most_kept cutter ≡ FILE_BYTES_MOST
-  pub units : HavePassed packets places given units
+  pub read : HavePassed packets places given units
