@@ -71,6 +71,7 @@ use Rattle.program_reader.specs.declared.timed_picture.Role.{Role}
 use Rattle.program_reader.specs.declared.timed_picture.Role.TheVariants.{Frame, FirstField, SecondField}
 use Rattle.program_reader.specs.declared.timed_picture.TimedPicture.{TimedPicture}
 use Rattle.program_reader.specs.declared.unit_picture.TimedUnit.{TimedUnit}
+use Rattle.program_reader.specs.KeptUnits.{row_of, AreRows, first_of}
 use Rattle.program_reader.specs.Packets.{pes_payload_of, joined, placed_from}
 use Rattle.es_units.specs.Pictures.{first_picture}
 use Rattle.program_reader.specs.PictureTimes.{is_first_picture_in, no_times, times_at, times_of_unit}
@@ -79,7 +80,7 @@ use Rattle.program_reader.specs.Units.{unit_bytes, state_behind, ticks_behind, I
 use Rattle.program_reader.specs.Units.{AreInOrder, last_of, is_none_left, IsUnitsFault, AreKept}
 use Rattle.program_reader.specs.Private.AudioStarts.{IsNear}
 use Rattle.program_reader.specs.Private.Dues.{IsTime}
-use Rattle.program_reader.specs.Private.KeptUnits.{IsVideo, Fits, row_of, AreRows, first_of, far, IsPictureNear, Keep, AreUnitsKept}
+use Rattle.program_reader.specs.Private.KeptUnits.{IsVideo, Fits, far, IsPictureNear, Keep, AreUnitsKept}
 use Rattle.program_reader.specs.Private.StampedPictures.{stamp_at, stamps_of, times_of_stamp, AreRising, TellTimes, IsCounted}
 use Rattle.program_reader.specs.Private.TimedPictures.{IsPossible, IsFound, IsShown, LastTells}
 use Rattle.program_reader.proofs.ReferenceLemmas.{before_is, before_shown, behind_is, behind_shown}
@@ -307,56 +308,22 @@ pub first_near : (value : Option ℕ) (stated ticks : ℤ) → IsInRange value �
 first_near None stated ticks range timed = absurd timed
 first_near (Some v) stated ticks range timed = zero_near v stated range timed.0
 
--- ---- one more unit is kept
+-- ---- one more unit
 
--- units are kept with it, and its times are near
-pub record KeptNext (es : List ℕ) (packets : List PlacedPacket) (units : List (ℕ × ℕ)) (pictures : List TimedPicture) (count behind : ℕ) (kept : KeptUnits) : Type 0 where
-  pub keep : Keep es packets units pictures kept
-  pub near : IfSome kept.last (IsPictureNear count behind)
-
-pub keep_next : (es : List ℕ) (packets : List PlacedPacket) (units : List (ℕ × ℕ)) (pictures : List TimedPicture) (unit : ℕ × ℕ) (picture : TimedPicture) (old new : KeptUnits)
-    (count next i : ℕ) → next ≤ 4000000 → i < 1099511627777 → IsInRange (decoding_time picture.times) → IfSome old.last IsPossible → Keep es packets units pictures old →
-    IfSome old.last (IsPictureNear count i) → IsStep count next (decoding_time picture.times) → IsNext es packets (all_earlier [] pictures) unit picture →
-    new.units.items ≡ old.units.items ++ row_of unit picture ∷ [] → new.first ≡ Some (unwrap_or old.first picture) → new.last ≡ Some picture →
-    KeptNext es packets (units ++ unit ∷ []) (pictures ++ picture ∷ []) next (i + 1) new
-keep_next es packets units pictures unit picture old new count next_count i few lt range possible_old keep near stated next items first last =
-    let earlier = all_earlier [] pictures in
-    let last_same : nearest earlier ≡ old.last = nearest_last [] pictures ∙ sym keep.last_is in
-    let own_timed : IsTimed old.last (decoding_time picture.times) picture.stated picture.ticks =
-    subst (λ (b : Option TimedPicture). IsTimed b (decoding_time picture.times) picture.stated picture.ticks) last_same next.timed in
-    let timed = timed_near old.last (decoding_time picture.times) picture.stated picture.ticks count next_count i range near stated own_timed in
-    let possible : IfSome (nearest earlier) IsPossible = subst (λ (b : Option TimedPicture). IfSome b IsPossible) (sym last_same) possible_old in
-    let shown = shown_next es packets earlier unit picture possible (last_tells es packets [] units pictures keep.in_order tt) next in
-    let tick : IsTickUnit (row_of unit picture) = (let far = far_tick picture.ticks next_count (i + 1) few (omega (arith, lt)) timed.1 in record { least = far.0; most = far.1 }) in record {
-      keep = record {
-        in_order = order_push es packets [] units pictures unit picture keep.in_order next;
-        rows = subst (λ (rs : List KeptUnit). AreRows (units ++ unit ∷ []) (pictures ++ picture ∷ []) rs) (sym items)
-            (rows_push units pictures old.units.items unit picture (row_of unit picture) keep.rows refl);
-        first_is = first ∙ ap (λ (f : Option TimedPicture). Some (unwrap_or f picture)) keep.first_is ∙ sym (first_push pictures picture);
-        first_near = subst (λ (f : Option TimedPicture). IfSome f (λ picture. IsNear 0 picture.stated)) (sym first)
-            (first_step old.first old.last picture pictures keep.first_is keep.last_is keep.first_near range own_timed);
-        last_is = last ∙ sym (last_push pictures picture);
-        ticks = subst (All IsTickUnit) (sym items) (All-push IsTickUnit old.units.items (row_of unit picture) keep.ticks tick);
-      };
-      near = subst (λ (f : Option TimedPicture). IfSome f (IsPictureNear next_count (i + 1))) (sym last)
-          (record {
-            state = state_next es packets earlier unit picture possible next;
-            stated = timed.0;
-            least = timed.1.0;
-            most = timed.1.1;
-            shown_before = shown.0;
-            shown_behind = shown.1;
-          });
+-- the times of its picture are near, behind one more stated time or none
+pub near_next : (es : List ℕ) (packets : List PlacedPacket) (earlier : List TimedPicture) (unit : ℕ × ℕ) (picture : TimedPicture) (count next i : ℕ) → IsInRange (decoding_time picture.times) →
+    IfSome (nearest earlier) IsPossible → IfSome (nearest earlier) (IsPictureNear count i) → IsStep count next (decoding_time picture.times) → LastTells earlier →
+    IsNext es packets earlier unit picture → IsPictureNear next (i + 1) picture
+near_next es packets earlier unit picture count next_count i range possible near stated tells next =
+    let timed = timed_near (nearest earlier) (decoding_time picture.times) picture.stated picture.ticks count next_count i range near stated next.timed in
+    let shown = shown_next es packets earlier unit picture possible tells next in record {
+      state = state_next es packets earlier unit picture possible next;
+      stated = timed.0;
+      least = timed.1.0;
+      most = timed.1.1;
+      shown_before = shown.0;
+      shown_behind = shown.1;
     }
-  where
-    first_step : (f l : Option TimedPicture) (picture : TimedPicture) (pictures : List TimedPicture) → f ≡ first_of pictures → l ≡ last_of pictures →
-        IfSome f (λ picture. IsNear 0 picture.stated) → IsInRange (decoding_time picture.times) → IsTimed l (decoding_time picture.times) picture.stated picture.ticks →
-        IsNear 0 (unwrap_or f picture).stated
-    first_step (Some f) l picture pictures first last near range timed = near
-    first_step None l picture [] first last near range timed =
-        first_near (decoding_time picture.times) picture.stated picture.ticks range
-        (subst (λ (b : Option TimedPicture). IsTimed b (decoding_time picture.times) picture.stated picture.ticks) last timed)
-    first_step None l picture (p ∷ ps) first last near range timed = absurd cc
 
 -- ---- a loop over the units
 
@@ -472,20 +439,50 @@ kept_more es packets cuts i unit left behind old new times picture lt few is ran
     let step = step_of left behind times so_far.count so_far.counted counted in
     let stated : IsStep so_far.count step.0 (decoding_time picture.times) = subst (λ (t : Times). IsStep so_far.count step.0 (decoding_time t)) (times_are ∙ sym next.times_are) step.1 in
     let range : IsInRange (decoding_time picture.times) = subst (λ (t : Times). IsInRange (decoding_time t)) (sym next.times_are) (range_of_unit es packets unit ranges) in
+    let earlier = earlier_kept es packets cuts i left old so_far in
+    let last_same = earlier_last es packets cuts i left old so_far in
+    let own_timed : IsTimed old.last (decoding_time picture.times) picture.stated picture.ticks =
+    subst (λ (b : Option TimedPicture). IsTimed b (decoding_time picture.times) picture.stated picture.ticks) last_same next.timed in
+    let possible : IfSome (nearest earlier) IsPossible =
+    subst (λ (b : Option TimedPicture). IfSome b IsPossible) (sym last_same) (possible_before es packets cuts i left old lt few so_far) in
+    let near : IsPictureNear step.0 (i + 1) picture =
+    near_next es packets earlier unit picture so_far.count step.0 i range possible (subst (λ (b : Option TimedPicture). IfSome b (IsPictureNear so_far.count i)) (sym last_same) so_far.near) stated
+    (earlier_tells es packets cuts i left old so_far) next in
     let next_few : step.0 ≤ 4000000 = omega (arith, step.2) in
+    let tick : IsTickUnit (row_of unit picture) = (let far = far_tick picture.ticks step.0 (i + 1) next_few (omega (arith, lt, few)) (near.least, near.most) in record { least = far.0; most = far.1 }) in
     let more : take (i + 1) cuts ≡ take i cuts ++ unit ∷ [] = take_more cuts i (0, 0) lt ∙ ap (λ (u : ℕ × ℕ). take i cuts ++ u ∷ []) (sym is) in
-    let kept = keep_next es packets (take i cuts) so_far.pictures unit picture old new so_far.count step.0 i next_few (omega (arith, lt, few)) range
-    (possible_before es packets cuts i left old lt few so_far) keep so_far.near stated next items first last in record {
+    let in_order : AreInOrder es packets [] (take i cuts ++ unit ∷ []) (so_far.pictures ++ picture ∷ []) =
+    order_push es packets [] (take i cuts) so_far.pictures unit picture keep.in_order next in
+    let rows : AreRows (take i cuts ++ unit ∷ []) (so_far.pictures ++ picture ∷ []) (old.units.items ++ row_of unit picture ∷ []) =
+    rows_push (take i cuts) so_far.pictures old.units.items unit picture (row_of unit picture) keep.rows refl in record {
       pictures = so_far.pictures ++ picture ∷ [];
-      keep = subst (λ (us : List (ℕ × ℕ)). Keep es packets us (so_far.pictures ++ picture ∷ []) new) (sym more) kept.keep;
+      keep = record {
+        in_order = subst (λ (us : List (ℕ × ℕ)). AreInOrder es packets [] us (so_far.pictures ++ picture ∷ [])) (sym more) in_order;
+        rows = subst (λ (rs : List KeptUnit). AreRows (take (i + 1) cuts) (so_far.pictures ++ picture ∷ []) rs) (sym items)
+            (subst (λ (us : List (ℕ × ℕ)). AreRows us (so_far.pictures ++ picture ∷ []) (old.units.items ++ row_of unit picture ∷ [])) (sym more) rows);
+        first_is = first ∙ ap (λ (f : Option TimedPicture). Some (unwrap_or f picture)) keep.first_is ∙ sym (first_push so_far.pictures picture);
+        first_near = subst (λ (f : Option TimedPicture). IfSome f (λ picture. IsNear 0 picture.stated)) (sym first)
+            (first_step old.first old.last picture so_far.pictures keep.first_is keep.last_is keep.first_near range own_timed);
+        last_is = last ∙ sym (last_push so_far.pictures picture);
+        ticks = subst (All IsTickUnit) (sym items) (All-push IsTickUnit old.units.items (row_of unit picture) keep.ticks tick);
+      };
       dropped = dropped ∙ so_far.dropped;
       from = unit.1;
       fits = here.fits;
       tells = tells;
       count = step.0;
       counted = step.2;
-      near = kept.near;
+      near = subst (λ (f : Option TimedPicture). IfSome f (IsPictureNear step.0 (i + 1))) (sym last) near;
     }
+  where
+    first_step : (f l : Option TimedPicture) (picture : TimedPicture) (pictures : List TimedPicture) → f ≡ first_of pictures → l ≡ last_of pictures →
+        IfSome f (λ picture. IsNear 0 picture.stated) → IsInRange (decoding_time picture.times) → IsTimed l (decoding_time picture.times) picture.stated picture.ticks →
+        IsNear 0 (unwrap_or f picture).stated
+    first_step (Some f) l picture pictures first last near range timed = near
+    first_step None l picture [] first last near range timed =
+        first_near (decoding_time picture.times) picture.stated picture.ticks range
+        (subst (λ (b : Option TimedPicture). IsTimed b (decoding_time picture.times) picture.stated picture.ticks) last timed)
+    first_step None l picture (p ∷ ps) first last near range timed = absurd cc
 
 -- ---- the last unit, and a refused one
 

@@ -24,6 +24,7 @@ use Rattle.std.proofs.Common.{
   Some,
   None,
   IfSome,
+  unwrap_or,
   Result,
   Ok,
   Err,
@@ -39,6 +40,7 @@ use Rattle.std.proofs.Common.{
   min,
   ◌^◌,
 }
+use Rattle.std.specs.List.{last_or}
 use Rattle.std.specs.Option.{option_map}
 use Rattle.std.proofs.Math.Seq.{drop-append_seam, take-append_seam}
 use Rattle.std.proofs.lemmas.List.{append-nil, append_assoc, length-append, length-drop, length-take, length-take-le, take-append-drop, take-append-le, take_all}
@@ -66,21 +68,23 @@ use Rattle.program_reader.specs.declared.times_walk.TimesWalk.{TimesWalk}
 use Rattle.program_reader.specs.declared.unit_sizes.SizesWanted.{SizesWanted}
 use Rattle.program_reader.specs.declared.unit_sizes.UnitSizes.{UnitSizes}
 use Rattle.program_reader.specs.declared.video_places.VideoPlaces.{VideoPlaces}
+use Rattle.program_reader.specs.KeptUnits.{AreRows, first_of, row_of, kept_at}
+use Rattle.program_reader.specs.Sizes.{AreSizedSoFar}
 use Rattle.program_reader.specs.Intervals.{nearest}
 use Rattle.program_reader.specs.Packets.{joined, placed_from}
 use Rattle.program_reader.specs.PictureTimes.{times_of_unit}
-use Rattle.program_reader.specs.TimesWalk.{HasPassed}
-use Rattle.program_reader.specs.Units.{IsBroken, IsNext, IsUnitRefused, is_none_left, last_of, state_behind, unit_bytes}
-use Rattle.program_reader.specs.VideoWalk.{AreFew, AreRefused, HasUnitFault}
-use Rattle.program_reader.specs.Private.KeptUnits.{row_of, Fits, IsPictureNear, Keep}
-use Rattle.program_reader.specs.Private.PassedVideo.{Stand, IsKeptAs, timed_as, IsReadAs, end_of, AreStatedTo, KeepAlways, AreSizedAlways, HavePassed}
-use Rattle.program_reader.specs.Private.SizedUnits.{AreSizedSoFar, IsSizedFound, IsSizedBehind, kept_at}
+use Rattle.program_reader.specs.TimesWalk.{HasPassed, Join}
+use Rattle.program_reader.specs.Units.{AreInOrder, IsBroken, IsNext, IsUnitRefused, is_none_left, last_of, state_behind, unit_bytes}
+use Rattle.program_reader.specs.VideoWalk.{AreFew, AreRefused, HasUnitFault, HavePassed, Stand, end_of}
+use Rattle.program_reader.specs.Private.KeptUnits.{Fits, IsPictureNear}
+use Rattle.program_reader.specs.Private.PassedVideo.{IsKeptAs, timed_as, IsReadAs}
+use Rattle.program_reader.specs.Private.SizedUnits.{IsSizedFound, IsSizedBehind}
 use Rattle.program_reader.specs.Private.TimedPictures.{IsFound, IsNotFound, IsPossible, LastTells}
 use Rattle.program_reader.proofs.CutLemmas.{cuts_fit}
-use Rattle.program_reader.proofs.KeepLemmas.{KeptNext, all_earlier, keep_next, last_tells, nearest_last, possible_near, range_of_unit}
-use Rattle.program_reader.proofs.SameTimes.{bytes_always, longer, times_always}
-use Rattle.program_reader.proofs.SizedLemmas.{sized_found, sized_more}
-use Rattle.program_reader.proofs.StatedTimes.{count_behind, stated_more, step_is}
+use Rattle.program_reader.proofs.KeepLemmas.{all_earlier, first_push, last_push, last_tells, near_next, nearest_last, order_push, possible_near, range_of_unit, rows_push}
+use Rattle.program_reader.proofs.SameTimes.{bytes_always, joins_all, longer, times_always}
+use Rattle.program_reader.proofs.SizedLemmas.{sized_more}
+use Rattle.program_reader.proofs.StatedTimes.{AreStatedTo, count_behind, stated_more, stated_none, step_is}
 use Rattle.program_reader.proofs.StreamLemmas.{placed_count, placed_times}
 use Rattle.program_reader.proofs.TimeRange.{IsInRange}
 
@@ -92,15 +96,15 @@ pub record Follows (size from : ℕ) (unit : ℕ × ℕ) : Type 0 where
   pub order : unit.0 ≤ unit.1
   pub within : unit.1 ≤ size
 
-fits_front : (size from : ℕ) (units more : List (ℕ × ℕ)) → Fits size from (units ++ more) → Fits size from units
+pub fits_front : (size from : ℕ) (units more : List (ℕ × ℕ)) → Fits size from (units ++ more) → Fits size from units
 fits_front size from [] more fits = tt
 fits_front size from (u ∷ us) more fits = (fits.0, fits.1, fits.2, fits_front size u.1 us more fits.3)
 
-fits_last : (size from : ℕ) (units : List (ℕ × ℕ)) (unit : ℕ × ℕ) → Fits size from (units ++ unit ∷ []) → Follows size (end_of from units) unit
+pub fits_last : (size from : ℕ) (units : List (ℕ × ℕ)) (unit : ℕ × ℕ) → Fits size from (units ++ unit ∷ []) → Follows size (end_of from units) unit
 fits_last size from [] unit fits = record { begun = fits.0; order = fits.1; within = fits.2 }
 fits_last size from (u ∷ us) unit fits = fits_last size u.1 us unit fits.3
 
-end_push : (from : ℕ) (units : List (ℕ × ℕ)) (unit : ℕ × ℕ) → end_of from (units ++ unit ∷ []) ≡ unit.1
+pub end_push : (from : ℕ) (units : List (ℕ × ℕ)) (unit : ℕ × ℕ) → end_of from (units ++ unit ∷ []) ≡ unit.1
 end_push from [] unit = refl
 end_push from (u ∷ us) unit = end_push u.1 us unit
 
@@ -199,91 +203,112 @@ passed_longer places more packets later bound walk has = record {
   packets_before = subst (All (λ (packet : PlacedPacket). packet.end ≤ bound)) (sym (take-append-le walk.packet packets later has.packets_within)) has.packets_before;
 }
 
--- ---- what is kept
+-- ---- times that are near
 
--- how many times are stated is few
-pub stated_few : (packets : List PesUnit) (count at : ℕ) → AreFew packets → AreStatedTo count at (joined (packets ++ [])) (placed_from 0 (packets ++ [])) → count ≤ 4000000
-stated_few packets count at few stated =
-    let size : length (placed_from 0 (packets ++ [])) ≡ length packets = placed_count 0 (packets ++ []) ∙ ap (λ (ps : List PesUnit). length ps) (append-nil packets) in
-    omega (arith, size, few.packets_few, stated.few)
+-- so many times are stated up to a place, and the last picture before it is near
+record NearTo (es : List ℕ) (packets : List PlacedPacket) (last : Option TimedPicture) (i at : ℕ) : Type 0 where
+  pub count : ℕ
+  pub stated : AreStatedTo count at es packets
+  pub near : IfSome last (IsPictureNear count i)
 
-pub possible_always : (packets : List PesUnit) (given : List (ℕ × ℕ)) (kept : KeptUnits) → AreFew packets → length given ≤ 1099511627777 → KeepAlways packets given kept
-    → IfSome kept.last IsPossible
-possible_always packets given kept few units_few always = by_last kept.last always.near
+near_from : (es : List ℕ) (packets : List PlacedPacket) (size : ℕ) (earlier : List TimedPicture) (units : List (ℕ × ℕ)) (pictures : List TimedPicture) (count i from : ℕ)
+    → length packets ≤ 4000000 → i + length units ≤ 1099511627777 → All (λ packet. IsInRange (decoding_time packet.header.times)) packets → AreInOrder es packets earlier units pictures
+    → Fits size from units → LastTells earlier → AreStatedTo count from es packets → IfSome (nearest earlier) (IsPictureNear count i)
+    → NearTo es packets (last_or (nearest earlier) pictures) (i + length units) (end_of from units)
+near_from es packets size earlier [] [] count i from few units_few ranges are fits tells stated near = record {
+  count = count;
+  stated = stated;
+  near = (let same : i ≡ i + 0 = omega arith in subst (λ (n : ℕ). IfSome (nearest earlier) (IsPictureNear count n)) same near);
+}
+near_from es packets size earlier [] (p ∷ ps) count i from few units_few ranges are fits tells stated near = absurd are
+near_from es packets size earlier (u ∷ us) [] count i from few units_few ranges are fits tells stated near = absurd are
+near_from es packets size earlier (u ∷ us) (p ∷ ps) count i from few units_few ranges are fits tells stated near =
+    let next = are.0 in
+    let behind = count_behind count (decoding_time p.times) in
+    let stated_next : AreStatedTo behind u.1 es packets = stated_more count from u.0 u.1 es packets p.times fits.0 fits.1 next.times_are stated in
+    let range : IsInRange (decoding_time p.times) = subst (λ (t : Times). IsInRange (decoding_time t)) (sym next.times_are) (range_of_unit es packets u ranges) in
+    let near_p : IsPictureNear behind (i + 1) p =
+    near_next es packets earlier u p count behind i range (by_nearest (nearest earlier) near) near (step_is count (decoding_time p.times)) tells next in
+    let size_is : (i + 1) + length us ≡ i + length (u ∷ us) = omega arith in
+    subst (λ (n : ℕ). NearTo es packets (last_or (Some p) ps) n (end_of u.1 us)) size_is
+    (near_from es packets size (p ∷ earlier) us ps behind (i + 1) u.1 few (omega (arith, size_is, units_few)) ranges are.1 fits.3 next.reference stated_next near_p)
   where
-    by_last : (last : Option TimedPicture) → IfSome last (IsPictureNear always.count (length given)) → IfSome last IsPossible
-    by_last None near = tt
-    by_last (Some picture) near =
-        possible_near picture always.count (length given) (stated_few packets always.count (end_of 0 given) few (always.stated [])) units_few near
+    by_nearest : (last : Option TimedPicture) → IfSome last (IsPictureNear count i) → IfSome last IsPossible
+    by_nearest None near = tt
+    by_nearest (Some picture) near = possible_near picture count i (omega (arith, stated.few, few)) (omega (arith, units_few)) near
 
-module _ (packets : List PesUnit) (given : List (ℕ × ℕ)) (unit : ℕ × ℕ) (picture : TimedPicture) (old new : KeptUnits) (few : AreFew packets) (units_few : length given < 1099511627777)
-    (follows : Follows (length (joined packets)) (end_of 0 given) unit) (always : KeepAlways packets given old) (kept : IsKeptAs old unit (Some picture) new)
-    (next : (more : List PesUnit) → IsNext (joined (packets ++ more)) (placed_from 0 (packets ++ more)) (all_earlier [] always.pictures) unit picture) where
-  abbrev next_count : ℕ
-  next_count = count_behind always.count (decoding_time picture.times)
+-- so the last picture is possible
+pub possible_passed : (packets : List PesUnit) (places : VideoPlaces) (given : List (ℕ × ℕ)) (units : PassedUnits) (size : ℕ) → AreFew packets → length given ≤ 1099511627777 → Fits size 0 given
+    → HavePassed packets places given units → IfSome units.kept.last IsPossible
+possible_passed packets places given units size few units_few fits have =
+    let es = joined packets in
+    let ps = placed_from 0 packets in
+    let count : length ps ≡ length packets = placed_count 0 packets in
+    let ordered : AreInOrder es ps [] given have.pictures =
+    subst (λ (qs : List PesUnit). AreInOrder (joined qs) (placed_from 0 qs) [] given have.pictures) (append-nil packets) (have.in_order []) in
+    let near = near_from es ps size [] given have.pictures 0 0 0 (omega (arith, count, few.packets_few)) (omega (arith, units_few)) (placed_times 0 packets) ordered fits tt (stated_none packets) tt in
+    subst (λ (last : Option TimedPicture). IfSome last IsPossible) (sym have.last_is)
+    (by_last near.count (0 + length given) (last_of have.pictures) (omega (arith, near.stated.few, count, few.packets_few)) (omega (arith, units_few)) near.near)
+  where
+    by_last : (count i : ℕ) (last : Option TimedPicture) → count ≤ 4000000 → i ≤ 1099511627777 → IfSome last (IsPictureNear count i) → IfSome last IsPossible
+    by_last count i None stated_few units_few near = tt
+    by_last count i (Some picture) stated_few units_few near = possible_near picture count i stated_few units_few near
 
-  stated_next : (more : List PesUnit) → AreStatedTo next_count unit.1 (joined (packets ++ more)) (placed_from 0 (packets ++ more))
-  stated_next more =
-      stated_more always.count (end_of 0 given) unit.0 unit.1 (joined (packets ++ more)) (placed_from 0 (packets ++ more)) picture.times follows.begun follows.order (next more).times_are
-      (always.stated more)
+-- ---- one more unit is kept
 
-  range_next : IsInRange (decoding_time picture.times)
-  range_next =
-      subst (λ (t : Times). IsInRange (decoding_time t)) (sym (next []).times_are)
-      (range_of_unit (joined (packets ++ [])) (placed_from 0 (packets ++ [])) unit (placed_times 0 (packets ++ [])))
-
-  kept_next : (more : List PesUnit) → KeptNext (joined (packets ++ more)) (placed_from 0 (packets ++ more)) (given ++ unit ∷ []) (always.pictures ++ picture ∷ []) next_count (length given + 1) new
-  kept_next more =
-      keep_next (joined (packets ++ more)) (placed_from 0 (packets ++ more)) given always.pictures unit picture old new always.count next_count (length given)
-      (stated_few packets next_count unit.1 few (stated_next [])) units_few range_next
-      (possible_always packets given old few (omega (arith, units_few)) always) (always.keep more) always.near (step_is always.count (decoding_time picture.times)) (next more)
-      kept.0 kept.1 kept.2
-
-  pub keep_more : KeepAlways packets (given ++ unit ∷ []) new
-  keep_more =
-      let size : length (given ++ unit ∷ []) ≡ length given + 1 = length-append given (unit ∷ []) in record {
-        pictures = always.pictures ++ picture ∷ [];
-        keep = λ more. (kept_next more).keep;
-        dropped = kept.3 ∙ always.dropped;
-        count = next_count;
-        stated = λ more. subst (λ (at : ℕ). AreStatedTo next_count at (joined (packets ++ more)) (placed_from 0 (packets ++ more))) (sym (end_push 0 given unit)) (stated_next more);
-        near = subst (λ (n : ℕ). IfSome new.last (IsPictureNear next_count n)) (sym size) (kept_next []).near;
-      }
+pub have_more : (packets : List PesUnit) (places : VideoPlaces) (given : List (ℕ × ℕ)) (unit : ℕ × ℕ) (picture : TimedPicture) (old new : PassedUnits)
+    → (have : HavePassed packets places given old) → IsKeptAs old.kept unit (Some picture) new.kept
+    → ((more : List PesUnit) → IsNext (joined (packets ++ more)) (placed_from 0 (packets ++ more)) (all_earlier [] have.pictures) unit picture)
+    → (new.wanted.are_wanted ≡ true → (more : List PesUnit)
+    → AreSizedSoFar (joined (packets ++ more)) new.wanted.coarser.now (state_behind new.kept.last) (map kept_at new.kept.units.items) new.sizes.items)
+    → new.wanted ≡ old.wanted → HasPassed places.pictures.items places.packets.items unit.1 new.times → HavePassed packets places (given ++ unit ∷ []) new
+have_more packets places given unit picture old new have kept next sized wanted passed = record {
+  pictures = have.pictures ++ picture ∷ [];
+  in_order = λ more. order_push (joined (packets ++ more)) (placed_from 0 (packets ++ more)) [] given have.pictures unit picture (have.in_order more) (next more);
+  rows = subst (λ (rs : List KeptUnit). AreRows (given ++ unit ∷ []) (have.pictures ++ picture ∷ []) rs) (sym kept.0)
+      (rows_push given have.pictures old.kept.units.items unit picture (row_of unit picture) have.rows refl);
+  first_is = kept.1 ∙ ap (λ (f : Option TimedPicture). Some (unwrap_or f picture)) have.first_is ∙ sym (first_push have.pictures picture);
+  last_is = kept.2 ∙ sym (last_push have.pictures picture);
+  none_dropped = kept.3 ∙ have.none_dropped;
+  sized = sized;
+  coarser = (let same : length new.wanted.coarser.now ≡ length old.wanted.coarser.now = ap (λ (w : SizesWanted). length w.coarser.now) wanted in omega (arith, same, have.coarser));
+  passed = subst (λ (n : ℕ). HasPassed places.pictures.items places.packets.items n new.times) (sym (end_push 0 given unit)) passed;
+}
 
 -- ---- a unit that has ended is read
 
-module _ (packets : List PesUnit) (places : VideoPlaces) (given : List (ℕ × ℕ)) (old : KeptUnits) (unit : CutUnit) (result : Result (Option TimedPicture) ProgramFault)
-    (stand : Stand packets places) (always : KeepAlways packets given old) (read : IsReadAs places unit false old.last result)
+module _ (packets : List PesUnit) (places : VideoPlaces) (given : List (ℕ × ℕ)) (old : PassedUnits) (unit : CutUnit) (result : Result (Option TimedPicture) ProgramFault)
+    (stand : Stand packets places) (have : HavePassed packets places given old) (read : IsReadAs places unit false old.kept.last result)
     (follows : Follows (length (joined packets)) (end_of 0 given) (place_of unit)) (ended : unit.end + 3 < length (joined packets))
     (bytes : unit.bytes.now ≡ unit_bytes (joined packets) (place_of unit)) where
   abbrev earlier_here : List TimedPicture
-  earlier_here = all_earlier [] always.pictures
+  earlier_here = all_earlier [] have.pictures
 
-  nearest_here : nearest earlier_here ≡ old.last
-  nearest_here = nearest_last [] always.pictures ∙ sym (always.keep []).last_is
+  nearest_here : nearest earlier_here ≡ old.kept.last
+  nearest_here = nearest_last [] have.pictures ∙ sym have.last_is
 
   bytes_here : (more : List PesUnit) → unit.bytes.now ≡ unit_bytes (joined (packets ++ more)) (place_of unit)
   bytes_here more = bytes ∙ sym (bytes_always packets more (place_of unit) follows.order follows.within)
 
-  found_here : (more : List PesUnit) → MatchResult result (IsFound (joined (packets ++ more)) (placed_from 0 (packets ++ more)) earlier_here old.last (timed_as unit read.times false))
-      (IsNotFound (joined (packets ++ more)) (placed_from 0 (packets ++ more)) old.last (timed_as unit read.times false))
+  found_here : (more : List PesUnit) → MatchResult result (IsFound (joined (packets ++ more)) (placed_from 0 (packets ++ more)) earlier_here old.kept.last (timed_as unit read.times false))
+      (IsNotFound (joined (packets ++ more)) (placed_from 0 (packets ++ more)) old.kept.last (timed_as unit read.times false))
   found_here more =
       read.found (joined (packets ++ more)) (placed_from 0 (packets ++ more)) earlier_here (bytes_here more) nearest_here
-      (last_tells (joined (packets ++ [])) (placed_from 0 (packets ++ [])) [] given always.pictures (always.keep []).in_order tt)
+      (last_tells (joined (packets ++ [])) (placed_from 0 (packets ++ [])) [] given have.pictures (have.in_order []) tt)
       (read.times_are packets stand follows.within ∙ sym (times_always packets more (place_of unit) ended))
 
   -- it is a picture, whatever packets follow
   pub next_here : (picture : TimedPicture) → result ≡ Ok (Some picture) → (more : List PesUnit)
       → IsNext (joined (packets ++ more)) (placed_from 0 (packets ++ more)) earlier_here (place_of unit) picture
   next_here picture is more =
-      subst (λ (r : Result (Option TimedPicture) ProgramFault). MatchResult r (IsFound (joined (packets ++ more)) (placed_from 0 (packets ++ more)) earlier_here old.last (timed_as unit read.times false))
-      (IsNotFound (joined (packets ++ more)) (placed_from 0 (packets ++ more)) old.last (timed_as unit read.times false))) is (found_here more)
+      subst (λ (r : Result (Option TimedPicture) ProgramFault). MatchResult r (IsFound (joined (packets ++ more)) (placed_from 0 (packets ++ more)) earlier_here old.kept.last (timed_as unit read.times false))
+      (IsNotFound (joined (packets ++ more)) (placed_from 0 (packets ++ more)) old.kept.last (timed_as unit read.times false))) is (found_here more)
 
   -- it isn't dropped
   pub some_here : result ≡ Ok None → ⊥
   some_here is =
-      let none : (false ≡ true) × (refusal : Refusal) × (at : ℕ) × IsBroken (joined (packets ++ [])) old.last (place_of unit) refusal at = subst (λ (r : Result (Option TimedPicture) ProgramFault). MatchResult r (IsFound (joined (packets ++ [])) (placed_from 0 (packets ++ [])) earlier_here old.last (timed_as unit read.times false))
-      (IsNotFound (joined (packets ++ [])) (placed_from 0 (packets ++ [])) old.last (timed_as unit read.times false))) is (found_here []) in
+      let none : (false ≡ true) × (refusal : Refusal) × (at : ℕ) × IsBroken (joined (packets ++ [])) old.kept.last (place_of unit) refusal at = subst (λ (r : Result (Option TimedPicture) ProgramFault). MatchResult r (IsFound (joined (packets ++ [])) (placed_from 0 (packets ++ [])) earlier_here old.kept.last (timed_as unit read.times false))
+      (IsNotFound (joined (packets ++ [])) (placed_from 0 (packets ++ [])) old.kept.last (timed_as unit read.times false))) is (found_here []) in
       let last : false ≡ true = none.0 in
       cc
 
@@ -295,9 +320,9 @@ module _ (packets : List PesUnit) (places : VideoPlaces) (given : List (ℕ × �
       let es = joined (packets ++ more) in
       let ps = placed_from 0 (packets ++ more) in
       let stands = stands_before es given (place_of unit) (within more) (begin_with more) in
-      let refused : IsUnitRefused es ps old.last (place_of unit) false fault =
-      by_fault (subst (λ (r : Result (Option TimedPicture) ProgramFault). MatchResult r (IsFound es ps earlier_here old.last (timed_as unit read.times false))
-      (IsNotFound es ps old.last (timed_as unit read.times false))) is (found_here more)) in record {
+      let refused : IsUnitRefused es ps old.kept.last (place_of unit) false fault =
+      by_fault (subst (λ (r : Result (Option TimedPicture) ProgramFault). MatchResult r (IsFound es ps earlier_here old.kept.last (timed_as unit read.times false))
+      (IsNotFound es ps old.kept.last (timed_as unit read.times false))) is (found_here more)) in record {
         units = stands.units;
         units_are = stands.units_are;
         fault_is = record {
@@ -305,32 +330,57 @@ module _ (packets : List PesUnit) (places : VideoPlaces) (given : List (ℕ × �
           unit = place_of unit;
           more = stands.more;
           split = stands.split;
-          pictures = always.pictures;
-          in_order = (always.keep more).in_order;
-          refused = subst (λ (l : Bool). IsUnitRefused es ps (last_of always.pictures) (place_of unit) l fault) (sym stands.left)
-              (subst (λ (b : Option TimedPicture). IsUnitRefused es ps b (place_of unit) false fault) (always.keep more).last_is refused);
+          pictures = have.pictures;
+          in_order = have.in_order more;
+          refused = subst (λ (l : Bool). IsUnitRefused es ps (last_of have.pictures) (place_of unit) l fault) (sym stands.left)
+              (subst (λ (b : Option TimedPicture). IsUnitRefused es ps b (place_of unit) false fault) have.last_is refused);
         };
       }
     where
-      by_fault : (fault ≡ OutOfMemory) ⊎ IsUnitRefused (joined (packets ++ more)) (placed_from 0 (packets ++ more)) old.last (place_of unit) false fault
-          → IsUnitRefused (joined (packets ++ more)) (placed_from 0 (packets ++ more)) old.last (place_of unit) false fault
+      by_fault : (fault ≡ OutOfMemory) ⊎ IsUnitRefused (joined (packets ++ more)) (placed_from 0 (packets ++ more)) old.kept.last (place_of unit) false fault
+          → IsUnitRefused (joined (packets ++ more)) (placed_from 0 (packets ++ more)) old.kept.last (place_of unit) false fault
       by_fault (inl memory) = absurd (some memory)
       by_fault (inr refused) = refused
 
   -- its sizes
-  pub sized_here : (picture : TimedPicture) (before behind : PassedUnits) → before.kept ≡ old → result ≡ Ok (Some picture) → IsKeptAs old (place_of unit) (Some picture) behind.kept
-      → behind.wanted ≡ before.wanted
-      → IsSizedFound (state_behind old.last) unit.bytes.now before.wanted.coarser.now before.wanted.are_wanted before.sizes.items behind.sizes.items (Some picture)
-      → AreSizedAlways packets before → AreSizedAlways packets behind
-  sized_here picture before behind same is kept wanted sized always_sized =
+  pub sized_here : (picture : TimedPicture) (behind : PassedUnits) → result ≡ Ok (Some picture) → IsKeptAs old.kept (place_of unit) (Some picture) behind.kept → behind.wanted ≡ old.wanted
+      → IsSizedFound (state_behind old.kept.last) unit.bytes.now old.wanted.coarser.now old.wanted.are_wanted old.sizes.items behind.sizes.items (Some picture)
+      → behind.wanted.are_wanted ≡ true → (more : List PesUnit)
+      → AreSizedSoFar (joined (packets ++ more)) behind.wanted.coarser.now (state_behind behind.kept.last) (map kept_at behind.kept.units.items) behind.sizes.items
+  sized_here picture behind is kept wanted sized =
       subst (λ (w : SizesWanted). w.are_wanted ≡ true → (more : List PesUnit)
       → AreSizedSoFar (joined (packets ++ more)) w.coarser.now (state_behind behind.kept.last) (map kept_at behind.kept.units.items) behind.sizes.items) (sym wanted)
       (λ want more.
         let es = joined (packets ++ more) in
         let within : unit.end ≤ length es = omega (arith, follows.within, longer packets more) in
-        let own : IsSizedBehind (state_behind old.last) (unit_bytes es (place_of unit)) before.wanted.coarser.now before.wanted.are_wanted before.sizes.items behind.sizes.items =
-        subst (λ (xs : List ℕ). IsSizedBehind (state_behind old.last) xs before.wanted.coarser.now before.wanted.are_wanted before.sizes.items behind.sizes.items) (bytes_here more) sized in
-        let so_far : (before.wanted.are_wanted ≡ true → AreSizedSoFar es before.wanted.coarser.now (state_behind old.last) (map kept_at old.units.items) before.sizes.items) =
-        λ want. subst (λ (k : KeptUnits). AreSizedSoFar es before.wanted.coarser.now (state_behind k.last) (map kept_at k.units.items) before.sizes.items) same (always_sized want more) in
-        sized_more es es (placed_from 0 (packets ++ more)) before.wanted.coarser.now before.wanted.are_wanted earlier_here old.last (place_of unit) picture old behind.kept before.sizes.items
-        behind.sizes.items refl refl nearest_here follows.order within (next_here picture is more) own kept.0 kept.2 so_far want)
+        let own : IsSizedBehind (state_behind old.kept.last) (unit_bytes es (place_of unit)) old.wanted.coarser.now old.wanted.are_wanted old.sizes.items behind.sizes.items =
+        subst (λ (xs : List ℕ). IsSizedBehind (state_behind old.kept.last) xs old.wanted.coarser.now old.wanted.are_wanted old.sizes.items behind.sizes.items) (bytes_here more) sized in
+        sized_more es es (placed_from 0 (packets ++ more)) old.wanted.coarser.now old.wanted.are_wanted earlier_here old.kept.last (place_of unit) picture old.kept behind.kept old.sizes.items
+        behind.sizes.items refl refl nearest_here follows.order within (next_here picture is more) own kept.0 kept.2 (λ want. have.sized want more) want)
+
+-- ---- times that are looked up
+
+-- places and packets as slices
+pub passed_slices : (places pictures : List ℕ) (packets placed : List PlacedPacket) (bound : ℕ) (walk : TimesWalk) → pictures ≡ places → placed ≡ packets → HasPassed places packets bound walk
+    → HasPassed pictures placed bound walk
+passed_slices places pictures packets placed bound walk pictures_are placed_are has =
+    subst (λ (ks : List ℕ). HasPassed ks placed bound walk) (sym pictures_are) (subst (λ (ps : List PlacedPacket). HasPassed places ps bound walk) (sym placed_are) has)
+
+pub slices_passed : (places pictures : List ℕ) (packets placed : List PlacedPacket) (bound : ℕ) (walk : TimesWalk) → pictures ≡ places → placed ≡ packets → HasPassed pictures placed bound walk
+    → HasPassed places packets bound walk
+slices_passed places pictures packets placed bound walk pictures_are placed_are has =
+    subst (λ (ks : List ℕ). HasPassed ks packets bound walk) pictures_are (subst (λ (ps : List PlacedPacket). HasPassed pictures ps bound walk) placed_are has)
+
+-- a unit's times are its own among the PES packets that have passed
+pub looked_up : (packets : List PesUnit) (places : VideoPlaces) (pictures : List ℕ) (placed : List PlacedPacket) (begin end : ℕ) (times : Times) → Stand packets places
+    → end ≤ length (joined packets) → pictures ≡ places.pictures.items → placed ≡ places.packets.items
+    → ((es : List ℕ) → picture_places es ≡ pictures → Join 0 placed (length es) → end ≤ length es → times ≡ times_of_unit es placed (begin, end))
+    → times ≡ times_of_unit (joined packets) (placed_from 0 packets) (begin, end)
+looked_up packets places pictures placed begin end times stand within pictures_are placed_are tell =
+    let placed_is : placed ≡ placed_from 0 packets = placed_are ∙ stand.placed in
+    tell (joined packets) (stand.found.all ∙ sym pictures_are) (subst (λ (ps : List PlacedPacket). Join 0 ps (length (joined packets))) (sym placed_is) (joins_all packets)) within
+    ∙ ap (λ (ps : List PlacedPacket). times_of_unit (joined packets) ps (begin, end)) placed_is
+
+pub looked_range : (packets : List PesUnit) (unit : ℕ × ℕ) (times : Times) → times ≡ times_of_unit (joined packets) (placed_from 0 packets) unit → IsInRange (decoding_time times)
+looked_range packets unit times are =
+    subst (λ (t : Times). IsInRange (decoding_time t)) (sym are) (range_of_unit (joined packets) (placed_from 0 packets) unit (placed_times 0 packets))

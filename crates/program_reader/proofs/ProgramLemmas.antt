@@ -75,13 +75,14 @@ use Rattle.program_reader.specs.declared.program_fault.ProgramFault.TheVariants.
 use Rattle.program_reader.specs.declared.program_fault.SourceKind.TheVariants as kinds
 use Rattle.program_reader.specs.declared.timed_picture.TimedPicture.{TimedPicture}
 use Rattle.program_reader.specs.declared.video_stream.ReadVideo.{ReadVideo}
+use Rattle.program_reader.specs.KeptUnits.{AreRows, first_of}
 use Rattle.program_reader.specs.Audio.{IsAudioFault, IsDue, AreAudioSources}
 use Rattle.program_reader.specs.Packets.{IsPacketFault, taken, packets_dropped, joined, placed_from}
 use Rattle.program_reader.specs.Programs.{HasFewPackets, video_bytes, video_packets, HasUnits, HasNoSequence, all_times, IsEarliest, IsBase, AreUnitSources, IsProgram, all_packets_dropped, IsDemuxedRefused, IsProgramRefused}
 use Rattle.program_reader.specs.Units.{AreInOrder, AreKept, all, but_last, last_of, IsBroken, IsUnitsFault}
 use Rattle.program_reader.specs.Private.AudioStarts.{IsNear, AreStreamsRead}
 use Rattle.program_reader.specs.Private.Dues.{IsTime, IsTimeFrom, Lowers, AreDueUnits}
-use Rattle.program_reader.specs.Private.KeptUnits.{IsVideo, AreRows, first_of, AreUnitsKept}
+use Rattle.program_reader.specs.Private.KeptUnits.{IsVideo, AreUnitsKept}
 use Rattle.program_reader.specs.Private.Sources.{IsVideoRead, AreStreamsFrom, frame_times, read_times}
 use Rattle.program_reader.specs.Private.TakenPackets.{AreTaken}
 use Rattle.program_reader.proofs.DueLemmas.{lowers_both}

@@ -9,7 +9,6 @@ use Rattle.program_reader.specs.declared.pes_packets.PlacedPacket.{PlacedPacket}
 use Rattle.program_reader.specs.declared.picture_times.StampedPicture.{StampedPicture}
 use Rattle.program_reader.specs.Packets.{joined, placed_from}
 use Rattle.program_reader.specs.PictureTimes.{no_times, times_of_unit}
-use Rattle.program_reader.specs.Private.PassedVideo.{AreStatedTo}
 use Rattle.program_reader.specs.Private.StampedPictures.{stamps_of, times_of_stamp, LeavesFrom, TellTimes, IsCounted}
 use Rattle.program_reader.proofs.KeepLemmas.{IsStep, stamps_few}
 use Rattle.program_reader.proofs.StampLemmas.{LooksUp, leaves_here, leaves_more, leaves_none, look_here, look_none, look_past, stamps_rise, tells_later, tells_more, tells_none, tells_unit, times_stamped, within}
@@ -55,6 +54,12 @@ left_behind es packets begin end stamps order tell = by_first (first_picture es 
           tells = tells_more es packets begin end at stamps looked.left order bounds.0 bounds.1 tell looked.looks.leaves;
           counted = subst (IsCounted stamps looked.left) own looked.looks.counted;
         }
+
+-- so many times were stated before a place, each by a PES packet of its own that doesn't count behind it
+pub record AreStatedTo (count at : ℕ) (es : List ℕ) (packets : List PlacedPacket) : Type 0 where
+  pub left : List StampedPicture
+  pub tells : TellTimes es packets at left
+  pub few : count + length left ≤ length packets
 
 -- how many are stated with one more
 abbrev pub count_behind : ℕ → Option ℕ → ℕ

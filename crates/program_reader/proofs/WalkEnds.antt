@@ -26,6 +26,7 @@ use Rattle.std.proofs.Common.{
   Some,
   None,
   IfSome,
+  unwrap_or,
   Result,
   Ok,
   Err,
@@ -42,7 +43,6 @@ use Rattle.std.proofs.Common.{
   arith,
 }
 use Rattle.std.proofs.lemmas.List.{append-nil, length-append, length-take, take_all}
-use Rattle.std.proofs.lemmas.List.Elements.{All-nil}
 use Rattle.es_units.specs.declared.unit_cutter.CutUnit.{CutUnit}
 use Rattle.es_units.specs.declared.unit_cutter.UnitCutter.{UnitCutter}
 use Rattle.es_units.specs.declared.units.Units.{Units}
@@ -70,29 +70,24 @@ use Rattle.program_reader.specs.declared.unit_sizes.SizesWanted.{SizesWanted}
 use Rattle.program_reader.specs.declared.unit_sizes.UnitSizes.{UnitSizes}
 use Rattle.program_reader.specs.declared.video_places.VideoPlaces.{VideoPlaces}
 use Rattle.program_reader.specs.declared.video_walk.WalkedVideo.{WalkedVideo}
+use Rattle.program_reader.specs.KeptUnits.{AreRows, first_of, row_of, kept_at}
 use Rattle.program_reader.specs.Intervals.{nearest}
 use Rattle.program_reader.specs.Packets.{AreSound, IsPacketFault, joined, packets_dropped, placed_from, taken}
 use Rattle.program_reader.specs.Programs.{HasUnits, IsDemuxedRefused, video_bytes, video_packets}
-use Rattle.program_reader.specs.Sizes.{AreUnitSizes}
+use Rattle.program_reader.specs.Sizes.{AreSizedSoFar, AreUnitSizes}
 use Rattle.program_reader.specs.TimesWalk.{HasPassed}
-use Rattle.program_reader.specs.Units.{AreKept, IsBroken, IsNext, IsUnitRefused, IsUnitsFault, last_of, state_behind, unit_bytes}
-use Rattle.program_reader.specs.VideoWalk.{AreFew, AreRefused, HasUnitFault, IsVideoOf, IsVideoWalked}
-use Rattle.program_reader.specs.Private.AudioStarts.{IsNear}
-use Rattle.program_reader.specs.Private.Dues.{IsTime}
-use Rattle.program_reader.specs.Private.KeptUnits.{AreRows, AreUnitsKept, IsPictureNear, Keep}
-use Rattle.program_reader.specs.Private.PassedVideo.{Stand, IsKeptAs, timed_as, IsReadAs, end_of, AreStatedTo, KeepAlways, AreSizedAlways, HavePassed, ReadsTo}
-use Rattle.program_reader.specs.Private.SizedUnits.{AreSizedSoFar, IsSizedBehind, IsSizedFound, kept_at}
+use Rattle.program_reader.specs.Units.{AreInOrder, AreKept, IsBroken, IsNext, IsUnitRefused, IsUnitsFault, last_of, state_behind, unit_bytes}
+use Rattle.program_reader.specs.VideoWalk.{AreFew, AreRefused, HasUnitFault, HavePassed, IsVideoWalked, ReadsTo, Stand, end_of}
+use Rattle.program_reader.specs.Private.PassedVideo.{IsKeptAs, timed_as, IsReadAs, IsVideoOf}
+use Rattle.program_reader.specs.Private.SizedUnits.{IsSizedBehind, IsSizedFound}
 use Rattle.program_reader.specs.Private.TakenPackets.{IsFaultOf}
 use Rattle.program_reader.specs.Private.TimedPictures.{IsFound, IsNotFound, IsPossible}
-use Rattle.program_reader.proofs.KeepLemmas.{all_earlier, keep_next, last_tells, nearest_last, range_of_unit}
-use Rattle.program_reader.proofs.PassedLemmas.{AreGiven, Follows, fits_last, given_of, passed_later, possible_always, stated_few}
+use Rattle.program_reader.proofs.KeepLemmas.{all_earlier, first_push, last_tells, nearest_last, order_push, rows_push}
+use Rattle.program_reader.proofs.PassedLemmas.{AreGiven, Follows, fits_front, fits_last, given_of, passed_later, possible_passed}
 use Rattle.program_reader.proofs.ProgramLemmas.{first_none, first_some, none_kept, nothing_kept}
 use Rattle.program_reader.proofs.SameTimes.{longer}
 use Rattle.program_reader.proofs.SizedLemmas.{sized_all, sized_more, sized_none}
-use Rattle.program_reader.proofs.StatedTimes.{count_behind, stated_more, stated_none, step_is}
-use Rattle.program_reader.proofs.StreamLemmas.{placed_times}
 use Rattle.program_reader.proofs.TakenLemmas.{IsWhole, count_dropped, count_taken, dropped_of, read_none, read_some, refused_last, sound_of, taken_of}
-use Rattle.program_reader.proofs.TimeRange.{IsInRange}
 
 -- ---- before the first packet
 
@@ -106,28 +101,28 @@ reads_none places cutter units stand cut most none first last dropped sizes pass
   cut = cut;
   most = most;
   read = record {
-    keep = record {
-      pictures = [];
-      keep = λ more. record {
-        in_order = tt;
-        rows = subst (AreRows [] []) (sym none) tt;
-        first_is = first;
-        first_near = subst (λ (f : Option TimedPicture). IfSome f (λ picture. IsNear 0 picture.stated)) (sym first) tt;
-        last_is = last;
-        ticks = subst (All (λ (unit : KeptUnit). IsTime unit.ticks)) (sym none) (All-nil (λ (unit : KeptUnit). IsTime unit.ticks));
-      };
-      dropped = dropped;
-      count = 0;
-      stated = λ more. stated_none more;
-      near = subst (λ (f : Option TimedPicture). IfSome f (IsPictureNear 0 0)) (sym last) tt;
-    };
+    pictures = [];
+    in_order = λ more. tt;
+    rows = subst (AreRows [] []) (sym none) tt;
+    first_is = first;
+    last_is = last;
+    none_dropped = dropped;
     sized = λ want more. sized_none (joined more) units.wanted.coarser.now units.kept.last units.kept.units.items units.sizes.items none last sizes;
-    passed = passed;
     coarser = coarser;
+    passed = passed;
   };
 }
 
 -- ---- the last unit
+
+-- the units of a video that are kept at its end, as pictures in order
+pub record IsWalkKept (es : List ℕ) (packets : List PlacedPacket) (cuts : List (ℕ × ℕ)) (kept : KeptUnits) : Type 0 where
+  pub units : List (ℕ × ℕ)
+  pub pictures : List TimedPicture
+  pub kept_are : AreKept es packets cuts units pictures kept.dropped
+  pub in_order : AreInOrder es packets [] units pictures
+  pub rows : AreRows units pictures kept.units.items
+  pub first_is : kept.first ≡ first_of pictures
 
 module _ (packets : List PesUnit) (places : VideoPlaces) (cutter : UnitCutter) (units : PassedUnits) (few : AreFew packets)
     (reads : ReadsTo packets (length (joined packets)) places cutter units) where
@@ -140,8 +135,8 @@ module _ (packets : List PesUnit) (places : VideoPlaces) (cutter : UnitCutter) (
   pub cut_all : HasCut es reads.given cutter
   cut_all = subst (λ (xs : List ℕ). HasCut xs reads.given cutter) (take_all (length es) es (omega arith)) reads.cut
 
-  abbrev always : KeepAlways packets reads.given units.kept
-  always = reads.read.keep
+  abbrev have : HavePassed packets places reads.given units
+  have = reads.read
 
   module _ (unit : CutUnit)
       (cut_is : cut_units es ≡ Some (let u : Units = record { dropped = units_dropped cutter; cuts = reads.given ++ place_of unit ∷ [] } in u))
@@ -178,24 +173,22 @@ module _ (packets : List PesUnit) (places : VideoPlaces) (cutter : UnitCutter) (
     passed_last = passed_later places.pictures.items places.packets.items (end_of 0 reads.given) unit.begin units.times follows_last.begun reads.read.passed
 
     pub possible_last : IfSome units.kept.last IsPossible
-    possible_last = possible_always packets reads.given units.kept few (omega (arith, few_last)) always
+    possible_last =
+        possible_passed packets places reads.given units (length es) few (omega (arith, few_last)) (fits_front (length es) 0 reads.given (place_of unit ∷ []) given_last.fits) have
 
     module _ (behind : PassedUnits) (result : Result (Option TimedPicture) ProgramFault) (read : IsReadAs places unit true units.kept.last result) where
       abbrev earlier : List TimedPicture
-      earlier = all_earlier [] always.pictures
+      earlier = all_earlier [] have.pictures
 
-      keep_all : Keep es ps reads.given always.pictures units.kept
-      keep_all = subst (λ (qs : List PesUnit). Keep (joined qs) (placed_from 0 qs) reads.given always.pictures units.kept) (append-nil packets) (always.keep [])
-
-      stated_all : AreStatedTo always.count (end_of 0 reads.given) es ps
-      stated_all = subst (λ (qs : List PesUnit). AreStatedTo always.count (end_of 0 reads.given) (joined qs) (placed_from 0 qs)) (append-nil packets) (always.stated [])
+      order_all : AreInOrder es ps [] reads.given have.pictures
+      order_all = subst (λ (qs : List PesUnit). AreInOrder (joined qs) (placed_from 0 qs) [] reads.given have.pictures) (append-nil packets) (have.in_order [])
 
       nearest_all : nearest earlier ≡ units.kept.last
-      nearest_all = nearest_last [] always.pictures ∙ sym keep_all.last_is
+      nearest_all = nearest_last [] have.pictures ∙ sym have.last_is
 
       found_all : MatchResult result (IsFound es ps earlier units.kept.last (timed_as unit read.times true)) (IsNotFound es ps units.kept.last (timed_as unit read.times true))
       found_all =
-          read.found es ps earlier bytes_last nearest_all (last_tells es ps [] reads.given always.pictures keep_all.in_order tt) (read.times_are packets reads.stand follows_last.within)
+          read.found es ps earlier bytes_last nearest_all (last_tells es ps [] reads.given have.pictures order_all tt) (read.times_are packets reads.stand follows_last.within)
 
       next_all : (picture : TimedPicture) → result ≡ Ok (Some picture) → IsNext es ps earlier (place_of unit) picture
       next_all picture is =
@@ -204,47 +197,35 @@ module _ (packets : List PesUnit) (places : VideoPlaces) (cutter : UnitCutter) (
 
       -- it is a picture
       kept_some : (picture : TimedPicture) → result ≡ Ok (Some picture) → IsKeptAs units.kept (place_of unit) (Some picture) behind.kept
-          → AreUnitsKept es ps (reads.given ++ place_of unit ∷ []) behind.kept
-      kept_some picture is kept =
-          let next = next_all picture is in
-          let count = count_behind always.count (decoding_time picture.times) in
-          let stated : AreStatedTo count unit.end es ps =
-          stated_more always.count (end_of 0 reads.given) unit.begin unit.end es ps picture.times follows_last.begun follows_last.order next.times_are stated_all in
-          let count_few : count ≤ 4000000 =
-          stated_few packets count unit.end few (subst (λ (qs : List PesUnit). AreStatedTo count unit.end (joined qs) (placed_from 0 qs)) (sym (append-nil packets)) stated) in
-          let range : IsInRange (decoding_time picture.times) =
-          subst (λ (t : Times). IsInRange (decoding_time t)) (sym next.times_are) (range_of_unit es ps (place_of unit) (placed_times 0 packets)) in
-          let more =
-          keep_next es ps reads.given always.pictures (place_of unit) picture units.kept behind.kept always.count count (length reads.given) count_few (omega (arith, few_last)) range possible_last
-          keep_all always.near (step_is always.count (decoding_time picture.times)) next kept.0 kept.1 kept.2 in record {
-            units = reads.given ++ place_of unit ∷ [];
-            pictures = always.pictures ++ picture ∷ [];
-            kept_are = AreKept.all refl more.keep.in_order (kept.3 ∙ always.dropped);
-            keep = more.keep;
-          }
+          → IsWalkKept es ps (reads.given ++ place_of unit ∷ []) behind.kept
+      kept_some picture is kept = record {
+        units = reads.given ++ place_of unit ∷ [];
+        pictures = have.pictures ++ picture ∷ [];
+        kept_are = AreKept.all refl (order_push es ps [] reads.given have.pictures (place_of unit) picture order_all (next_all picture is)) (kept.3 ∙ have.none_dropped);
+        in_order = order_push es ps [] reads.given have.pictures (place_of unit) picture order_all (next_all picture is);
+        rows = subst (λ (rs : List KeptUnit). AreRows (reads.given ++ place_of unit ∷ []) (have.pictures ++ picture ∷ []) rs) (sym kept.0)
+            (rows_push reads.given have.pictures units.kept.units.items (place_of unit) picture (row_of (place_of unit) picture) have.rows refl);
+        first_is = kept.1 ∙ ap (λ (f : Option TimedPicture). Some (unwrap_or f picture)) have.first_is ∙ sym (first_push have.pictures picture);
+      }
 
       -- it is dropped
-      kept_none : result ≡ Ok None → IsKeptAs units.kept (place_of unit) None behind.kept → AreUnitsKept es ps (reads.given ++ place_of unit ∷ []) behind.kept
+      kept_none : result ≡ Ok None → IsKeptAs units.kept (place_of unit) None behind.kept → IsWalkKept es ps (reads.given ++ place_of unit ∷ []) behind.kept
       kept_none is kept =
-          let broken : (true ≡ true) × (refusal : Refusal) × (at : ℕ) × IsBroken es units.kept.last (place_of unit) refusal at = subst (λ (r : Result (Option TimedPicture) ProgramFault). MatchResult r (IsFound es ps earlier units.kept.last (timed_as unit read.times true))
+          let broken : (true ≡ true) × (refusal : Refusal) × (at : ℕ) × IsBroken es units.kept.last (place_of unit) refusal at =
+          subst (λ (r : Result (Option TimedPicture) ProgramFault). MatchResult r (IsFound es ps earlier units.kept.last (timed_as unit read.times true))
           (IsNotFound es ps units.kept.last (timed_as unit read.times true))) is found_all in
-          let own_broken : IsBroken es (last_of always.pictures) (place_of unit) broken.1 broken.2 =
-          subst (λ (b : Option TimedPicture). IsBroken es b (place_of unit) broken.1 broken.2) keep_all.last_is broken.3 in record {
+          let own_broken : IsBroken es (last_of have.pictures) (place_of unit) broken.1 broken.2 =
+          subst (λ (b : Option TimedPicture). IsBroken es b (place_of unit) broken.1 broken.2) have.last_is broken.3 in record {
             units = reads.given;
-            pictures = always.pictures;
-            kept_are = AreKept.but_last (place_of unit) broken.1 broken.2 refl keep_all.in_order own_broken kept.3;
-            keep = record {
-              in_order = keep_all.in_order;
-              rows = subst (AreRows reads.given always.pictures) (sym kept.0) keep_all.rows;
-              first_is = kept.1 ∙ keep_all.first_is;
-              first_near = subst (λ (f : Option TimedPicture). IfSome f (λ picture. IsNear 0 picture.stated)) (sym kept.1) keep_all.first_near;
-              last_is = kept.2 ∙ keep_all.last_is;
-              ticks = subst (All (λ (row : KeptUnit). IsTime row.ticks)) (sym kept.0) keep_all.ticks;
-            };
+            pictures = have.pictures;
+            kept_are = AreKept.but_last (place_of unit) broken.1 broken.2 refl order_all own_broken kept.3;
+            in_order = order_all;
+            rows = subst (AreRows reads.given have.pictures) (sym kept.0) have.rows;
+            first_is = kept.1 ∙ have.first_is;
           }
 
       pub kept_end : (found : Option TimedPicture) → result ≡ Ok found → IsKeptAs units.kept (place_of unit) found behind.kept
-          → AreUnitsKept es ps (reads.given ++ place_of unit ∷ []) behind.kept
+          → IsWalkKept es ps (reads.given ++ place_of unit ∷ []) behind.kept
       kept_end None is kept = kept_none is kept
       kept_end (Some picture) is kept = kept_some picture is kept
 
@@ -261,9 +242,9 @@ module _ (packets : List PesUnit) (places : VideoPlaces) (cutter : UnitCutter) (
             unit = place_of unit;
             more = [];
             split = refl;
-            pictures = always.pictures;
-            in_order = keep_all.in_order;
-            refused = subst (λ (b : Option TimedPicture). IsUnitRefused es ps b (place_of unit) true fault) keep_all.last_is refused;
+            pictures = have.pictures;
+            in_order = order_all;
+            refused = subst (λ (b : Option TimedPicture). IsUnitRefused es ps b (place_of unit) true fault) have.last_is refused;
           })
 
       -- the sizes of all
@@ -272,14 +253,14 @@ module _ (packets : List PesUnit) (places : VideoPlaces) (cutter : UnitCutter) (
           → units.wanted.are_wanted ≡ true → AreUnitSizes es units.wanted.coarser.now None (map kept_at behind.kept.units.items) behind.sizes.items
       sized_end None is kept wanted sized want =
           let so_far = subst (λ (qs : List PesUnit). AreSizedSoFar (joined qs) units.wanted.coarser.now (state_behind units.kept.last) (map kept_at units.kept.units.items) units.sizes.items)
-          (append-nil packets) (reads.read.sized want []) in
+          (append-nil packets) (have.sized want []) in
           subst (λ (ss : List UnitSizes). AreUnitSizes es units.wanted.coarser.now None (map kept_at behind.kept.units.items) ss) (sym sized)
           (subst (λ (rows : List KeptUnit). AreUnitSizes es units.wanted.coarser.now None (map kept_at rows) units.sizes.items) (sym kept.0)
           (sized_all es units.wanted.coarser.now (state_behind units.kept.last) (map kept_at units.kept.units.items) units.sizes.items so_far))
       sized_end (Some picture) is kept wanted sized want =
           let so_far : (units.wanted.are_wanted ≡ true → AreSizedSoFar es units.wanted.coarser.now (state_behind units.kept.last) (map kept_at units.kept.units.items) units.sizes.items) =
           λ want. subst (λ (qs : List PesUnit). AreSizedSoFar (joined qs) units.wanted.coarser.now (state_behind units.kept.last) (map kept_at units.kept.units.items) units.sizes.items)
-          (append-nil packets) (reads.read.sized want []) in
+          (append-nil packets) (have.sized want []) in
           let own_sized : IsSizedBehind (state_behind units.kept.last) (unit_bytes es (place_of unit)) units.wanted.coarser.now units.wanted.are_wanted units.sizes.items behind.sizes.items =
           subst (λ (xs : List ℕ). IsSizedBehind (state_behind units.kept.last) xs units.wanted.coarser.now units.wanted.are_wanted units.sizes.items behind.sizes.items) bytes_last sized in
           sized_all es units.wanted.coarser.now (state_behind behind.kept.last) (map kept_at behind.kept.units.items) behind.sizes.items
@@ -311,11 +292,11 @@ module _ (demuxed : Demuxed) (packets : List PesUnit) (taken_is : taken true dem
 
   -- all units are read
   pub answer_units : (units : Units) (read : PassedUnits) (dropped pes_dropped : ℕ) (result : Result WalkedVideo ProgramFault) → cut_units (joined packets) ≡ Some units
-      → AreUnitsKept (joined packets) (placed_from 0 packets) units.cuts read.kept → dropped ≡ units.dropped → pes_dropped ≡ packets_dropped true demuxed.video
+      → IsWalkKept (joined packets) (placed_from 0 packets) units.cuts read.kept → dropped ≡ units.dropped → pes_dropped ≡ packets_dropped true demuxed.video
       → MatchResult result (IsVideoOf read dropped pes_dropped) (λ fault. (read.kept.first ≡ None) × (fault ≡ Refused kinds.NoSequence 0))
       → MatchResult result (IsVideoWalked demuxed) (λ fault. (fault ≡ OutOfMemory) ⊎ IsDemuxedRefused demuxed fault)
   answer_units units read dropped pes_dropped (Ok video) units_are is dropped_is pes_is walked =
-      let begins = first_some is.pictures video.first (sym is.keep.first_is ∙ walked.first_is) in record {
+      let begins = first_some is.pictures video.first (sym is.first_is ∙ walked.first_is) in record {
         kept = is.units;
         pictures = is.pictures;
         has_pictures = record {
@@ -327,14 +308,12 @@ module _ (demuxed : Demuxed) (packets : List PesUnit) (taken_is : taken true dem
           first_is = begins.1;
           dropped_is = walked.dropped_is ∙ ap (λ (n : ℕ). min (n + read.kept.dropped) (2 ^ 32 - 1)) dropped_is;
         };
-        rows = subst (AreRows is.units is.pictures) (sym walked.rows_are) is.keep.rows;
-        near = subst (λ (f : Option TimedPicture). IfSome f (λ picture. IsNear 0 picture.stated)) walked.first_is is.keep.first_near;
-        ticks = subst (All (λ (unit : KeptUnit). IsTime unit.ticks)) (sym walked.rows_are) is.keep.ticks;
+        rows = subst (AreRows is.units is.pictures) (sym walked.rows_are) is.rows;
         pes_dropped_is = walked.pes_dropped_is ∙ pes_is;
       }
   answer_units units read dropped pes_dropped (Err fault) units_are is dropped_is pes_is none =
-      let no_pictures : is.pictures ≡ [] = first_none is.pictures (sym is.keep.first_is ∙ none.0) in
-      let no_units : is.units ≡ [] = none_kept (joined packets) (placed_from 0 packets) [] is.units is.pictures is.keep.in_order no_pictures in
+      let no_pictures : is.pictures ≡ [] = first_none is.pictures (sym is.first_is ∙ none.0) in
+      let no_units : is.units ≡ [] = none_kept (joined packets) (placed_from 0 packets) [] is.units is.pictures is.in_order no_pictures in
       let has : HasUnits demuxed units = record { sound = sound; units_are = ap (λ (ps : List PesUnit). cut_units (joined ps)) taken_is ∙ units_are } in
       inr (subst (IsDemuxedRefused demuxed) (sym none.1)
       (IsDemuxedRefused.no_sequence

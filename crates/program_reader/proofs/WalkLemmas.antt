@@ -41,14 +41,14 @@ use Rattle.std.proofs.Common.{
   arith,
 }
 use Rattle.std.proofs.Math.Seq.{drop-append_seam, take-append_seam}
-use Rattle.std.proofs.lemmas.List.{append-nil, append_assoc, length-append, length-drop, length-take, length-take-le, take-append-drop, take_all, take_rest}
+use Rattle.std.proofs.lemmas.List.{append-nil, append_assoc, drop-drop, length-append, length-drop, length-take, length-take-le, take-append-drop, take_all, take_rest}
 use Rattle.std.specs.Option.{option_to_list}
 use Rattle.es_units.specs.declared.picture_finder.PictureFinder.{PictureFinder}
 use Rattle.es_units.specs.declared.unit_cutter.CutUnit.{CutUnit}
 use Rattle.es_units.specs.declared.unit_cutter.UnitCutter.{UnitCutter}
 use Rattle.es_units.specs.declared.units.Units.{Units}
 use Rattle.es_units.specs.PictureFinder.{HasFound, found_of, picture_places}
-use Rattle.es_units.specs.UnitCutter.{BeginWith, HasCut, ended_of, front_of, most_kept, place_of}
+use Rattle.es_units.specs.UnitCutter.{BeginWith, HasCut, bytes_pushed, ended_of, front_of, most_kept, place_of}
 use Rattle.es_units.specs.Units.{cut_units}
 use Rattle.es_units.proofs.CutterKeeps.{take_sum}
 use Rattle.pes_units.specs.declared.pes_header.PesHeader.{PesHeader}
@@ -63,15 +63,16 @@ use Rattle.program_reader.specs.declared.times_walk.TimesWalk.{TimesWalk}
 use Rattle.program_reader.specs.declared.unit_sizes.SizesWanted.{SizesWanted}
 use Rattle.program_reader.specs.declared.video_places.VideoPlaces.{VideoPlaces}
 use Rattle.program_reader.specs.declared.video_walk.VideoWalk.{VideoWalk}
+use Rattle.program_reader.specs.KeptUnits.{kept_at}
+use Rattle.program_reader.specs.Sizes.{AreSizedSoFar}
 use Rattle.program_reader.specs.Packets.{pes_payload_of, joined, placed_from}
 use Rattle.program_reader.specs.TimesWalk.{HasPassed}
-use Rattle.program_reader.specs.Units.{state_behind, unit_bytes}
-use Rattle.program_reader.specs.VideoWalk.{AreFew, AreRefused, HasUnitFault, Reads}
-use Rattle.program_reader.specs.Private.KeptUnits.{Keep}
-use Rattle.program_reader.specs.Private.PassedVideo.{Stand, IsKeptAs, IsReadAs, end_of, AreStatedTo, KeepAlways, AreSizedAlways, HavePassed, ReadsTo}
-use Rattle.program_reader.specs.Private.SizedUnits.{AreSizedSoFar, IsSizedFound, kept_at}
+use Rattle.program_reader.specs.Units.{AreInOrder, state_behind, unit_bytes}
+use Rattle.program_reader.specs.VideoWalk.{AreFew, AreRefused, HasUnitFault, HavePassed, Reads, ReadsTo, Stand, end_of}
+use Rattle.program_reader.specs.Private.PassedVideo.{IsKeptAs, IsReadAs}
+use Rattle.program_reader.specs.Private.SizedUnits.{IsSizedFound}
 use Rattle.program_reader.specs.Private.TimedPictures.{IsPossible}
-use Rattle.program_reader.proofs.PassedLemmas.{AreGiven, Follows, ended_before, end_push, fits_last, given_of, keep_more, next_here, passed_later, passed_longer, possible_always, refused_here, sized_here, some_here}
+use Rattle.program_reader.proofs.PassedLemmas.{AreGiven, Follows, ended_before, fits_front, fits_last, given_of, have_more, next_here, passed_later, passed_longer, possible_passed, refused_here, sized_here, some_here}
 use Rattle.program_reader.proofs.SameTimes.{joined_append, longer, range_front}
 use Rattle.program_reader.proofs.TakenLemmas.{joined_push, placed_at, placed_push}
 
@@ -116,16 +117,6 @@ stand_more packets packet old mid new payload header from end stand header_is pa
 always_longer : (packets : List PesUnit) (packet : PesUnit) (P : List PesUnit → Type 0) → ((more : List PesUnit) → P (packets ++ more)) → (more : List PesUnit) → P ((packets ++ packet ∷ []) ++ more)
 always_longer packets packet P all more = subst P (sym (append_assoc packets (packet ∷ []) more)) (all (packet ∷ more))
 
-pub keep_longer : (packets : List PesUnit) (packet : PesUnit) (given : List (ℕ × ℕ)) (units : PassedUnits) → KeepAlways packets given units.kept → KeepAlways (packets ++ packet ∷ []) given units.kept
-keep_longer packets packet given units always = record {
-  pictures = always.pictures;
-  keep = always_longer packets packet (λ ps. Keep (joined ps) (placed_from 0 ps) given always.pictures units.kept) always.keep;
-  dropped = always.dropped;
-  count = always.count;
-  stated = always_longer packets packet (λ ps. AreStatedTo always.count (end_of 0 given) (joined ps) (placed_from 0 ps)) always.stated;
-  near = always.near;
-}
-
 -- the places of pictures and packets go on
 places_longer : (packets : List PesUnit) (packet : PesUnit) (old new : VideoPlaces) → Stand packets old → Stand (packets ++ packet ∷ []) new
     → (more : List ℕ) × (new.pictures.items ≡ old.pictures.items ++ more)
@@ -141,7 +132,12 @@ have_longer packets packet given old new units before behind have =
     behind.placed ∙ placed_push 0 packets packet ∙ ap (λ (ps : List PlacedPacket). ps ++ placed_at (0 + length (joined packets)) packet ∷ []) (sym before.placed) in
     let passed : HasPassed (old.pictures.items ++ pictures.0) (old.packets.items ++ placed_at (0 + length (joined packets)) packet ∷ []) (end_of 0 given) units.times =
     passed_longer old.pictures.items pictures.0 old.packets.items (placed_at (0 + length (joined packets)) packet ∷ []) (end_of 0 given) units.times have.passed in record {
-      keep = keep_longer packets packet given units have.keep;
+      pictures = have.pictures;
+      in_order = always_longer packets packet (λ ps. AreInOrder (joined ps) (placed_from 0 ps) [] given have.pictures) have.in_order;
+      rows = have.rows;
+      first_is = have.first_is;
+      last_is = have.last_is;
+      none_dropped = have.none_dropped;
       sized = λ want. always_longer packets packet
           (λ ps. AreSizedSoFar (joined ps) units.wanted.coarser.now (state_behind units.kept.last) (map kept_at units.kept.units.items) units.sizes.items) (have.sized want);
       passed = subst (λ (ps : List PlacedPacket). HasPassed new.pictures.items ps (end_of 0 given) units.times) (sym placed)
@@ -260,7 +256,8 @@ module _ (packets : List PesUnit) (at : ℕ) (places : VideoPlaces) (old new : U
     passed_here = passed_later places.pictures.items places.packets.items (end_of 0 reads.given) unit.begin units.times follows.begun reads.read.passed
 
     pub possible_here : IfSome units.kept.last IsPossible
-    possible_here = possible_always packets reads.given units.kept few (omega (arith, units_few)) reads.read.keep
+    possible_here =
+        possible_passed packets places reads.given units (length here) few (omega (arith, units_few)) (fits_front (length here) 0 reads.given (place_of unit ∷ []) given_here.fits) reads.read
 
     module _ (behind : PassedUnits) (result : Result (Option TimedPicture) ProgramFault) (read : IsReadAs places unit false units.kept.last result) where
       -- it is kept
@@ -273,25 +270,59 @@ module _ (packets : List PesUnit) (at : ℕ) (places : VideoPlaces) (old new : U
         given = reads.given ++ place_of unit ∷ [];
         cut = subst (λ (us : List (ℕ × ℕ)). HasCut here (reads.given ++ us) new) ended cut_here;
         most = most ∙ reads.most;
-        read = record {
-          keep = keep_more packets reads.given (place_of unit) picture units.kept behind.kept few units_few follows reads.read.keep kept
-              (next_here packets places reads.given units.kept unit result reads.stand reads.read.keep read follows ends_before bytes_are picture is);
-          sized = sized_here packets places reads.given units.kept unit result reads.stand reads.read.keep read follows ends_before bytes_are picture units behind refl is kept wanted sized
-              reads.read.sized;
-          passed = subst (λ (n : ℕ). HasPassed places.pictures.items places.packets.items n behind.times) (sym (end_push 0 reads.given (place_of unit))) passed;
-          coarser = (let same : length behind.wanted.coarser.now ≡ length units.wanted.coarser.now = ap (λ (w : SizesWanted). length w.coarser.now) wanted in omega (arith, same, reads.read.coarser));
-        };
+        read = have_more packets places reads.given (place_of unit) picture units behind reads.read kept
+            (next_here packets places reads.given units unit result reads.stand reads.read read follows ends_before bytes_are picture is)
+            (sized_here packets places reads.given units unit result reads.stand reads.read read follows ends_before bytes_are picture behind is kept wanted sized) wanted passed;
       }
 
       pub reads_some : result ≡ Ok None → ⊥
-      reads_some = some_here packets places reads.given units.kept unit result reads.stand reads.read.keep read follows ends_before bytes_are
+      reads_some = some_here packets places reads.given units unit result reads.stand reads.read read follows ends_before bytes_are
 
       -- it is refused
       pub reads_refused : (fault : ProgramFault) → result ≡ Err fault → (fault ≡ OutOfMemory → ⊥) → AreRefused packets fault
       reads_refused fault is some =
-          refused_here packets places reads.given units.kept unit result reads.stand reads.read.keep read follows ends_before bytes_are fault is some
+          refused_here packets places reads.given units unit result reads.stand reads.read read follows ends_before bytes_are fault is some
           (λ more. subst (λ (us : List (ℕ × ℕ)). BeginWith (reads.given ++ us) (cut_units (joined (packets ++ more)))) ended (begins_here more))
           (λ more. omega (arith, ends_before, longer packets more))
+
+      -- so it is read
+      pub reads_found : (found : Option TimedPicture) → result ≡ Ok found → IsKeptAs units.kept (place_of unit) found behind.kept → behind.wanted ≡ units.wanted
+          → IsSizedFound (state_behind units.kept.last) unit.bytes.now units.wanted.coarser.now units.wanted.are_wanted units.sizes.items behind.sizes.items found
+          → HasPassed places.pictures.items places.packets.items unit.end behind.times → ReadsTo packets (at + count) places new behind
+      reads_found None is kept wanted sized passed = absurd (reads_some is)
+      reads_found (Some picture) is kept wanted sized passed = reads_unit picture is kept wanted sized passed
+
+-- a cutter can take what is left of the bytes
+pub push_fits : (packets : List PesUnit) (at : ℕ) (places : VideoPlaces) (cutter : UnitCutter) (units : PassedUnits) (bytes : List ℕ) → AreFew packets → ReadsTo packets at places cutter units
+    → drop at (joined packets) ≡ bytes → bytes_pushed cutter + length bytes ≤ 1099511627776
+push_fits packets at places cutter units bytes few reads left =
+    let size : length bytes ≡ length (joined packets) - at = ap (λ (xs : List ℕ). length xs) (sym left) ∙ length-drop at (joined packets) in
+    omega (arith, size, reads.cut.count, length-take-le at (joined packets) reads.within, reads.within, few.bytes_few)
+
+-- what is left behind more of them
+pub left_on : (es bytes : List ℕ) (at count : ℕ) → drop at es ≡ bytes → drop (at + count) es ≡ slice_range bytes count (length bytes)
+left_on es bytes at count left = sym (drop-drop count at es) ∙ ap (drop count) left ∙ sym (take_rest bytes count)
+
+-- all bytes are taken
+pub taken_all : (packets : List PesUnit) (at count : ℕ) (bytes : List ℕ) → at ≤ length (joined packets) → drop at (joined packets) ≡ bytes → count ≤ length bytes → length bytes ≤ count
+    → at + count ≡ length (joined packets)
+taken_all packets at count bytes within left less more =
+    let size : length bytes ≡ length (joined packets) - at = ap (λ (xs : List ℕ). length xs) (sym left) ∙ length-drop at (joined packets) in
+    omega (arith, size, within, less, more)
+
+-- the bytes behind a packet's header are its payload
+pub payload_is : (packet : PesUnit) (header : PesHeader) (bytes payload : List ℕ) → header ≡ pes_fields_of packet.bytes → bytes ≡ packet.bytes → payload ≡ drop header.len bytes
+    → payload ≡ pes_payload_of packet
+payload_is packet header bytes payload header_is bytes_are payload_are =
+    payload_are ∙ ap (drop header.len) bytes_are ∙ ap (λ (h : PesHeader). drop h.len packet.bytes) header_is
+
+-- where a packet's bytes can be placed
+pub place_fits : (packets : List PesUnit) (packet : PesUnit) (places : VideoPlaces) (payload : List ℕ) → Stand packets places → AreFew (packets ++ packet ∷ []) → payload ≡ pes_payload_of packet
+    → places.bytes + length payload ≤ 1099511627776
+place_fits packets packet places payload stand few payload_are =
+    let all : length (joined (packets ++ packet ∷ [])) ≡ length (joined packets ++ pes_payload_of packet) = ap (λ (xs : List ℕ). length xs) (joined_push packets packet) in
+    let size : length payload ≡ length (pes_payload_of packet) = ap (λ (xs : List ℕ). length xs) payload_are in
+    omega (arith, all, size, length-append (joined packets) (pes_payload_of packet), stand.bytes, few.bytes_few)
 
 -- ---- where a unit was refused
 

@@ -8,5 +8,6 @@ pub mod Audio
 pub mod Programs
 pub mod Carry
 pub mod Sizes
+pub mod KeptUnits
 pub mod VideoWalk
 pub mod Private

@@ -1,25 +1,29 @@
 -- What a walk over the PES packets of a video has read of it, and what it answers at its end.
-use Rattle.std.specs.Prelude.{◌≡◌, ℕ, ◌+◌, ◌-◌, ◌^◌, ◌≤◌, min, true, List, [], ◌∷◌, ◌++◌, length, All, Option, Some, None}
+use Rattle.std.specs.Prelude.{◌≡◌, ℕ, ◌<◌, ◌≤◌, true, List, [], ◌∷◌, ◌++◌, length, take, map, All, Option, Some, None}
+use Rattle.es_units.specs.declared.unit_cutter.UnitCutter.{UnitCutter}
 use Rattle.es_units.specs.declared.units.Units.{Units}
+use Rattle.es_units.specs.PictureFinder.{HasFound}
+use Rattle.es_units.specs.UnitCutter.{HasCut, most_kept}
 use Rattle.es_units.specs.Units.{cut_units}
 use Rattle.pes_units.specs.PesPackets.{packet_refusal}
 use Rattle.ts_demux.specs.declared.demuxed.Demuxed.{Demuxed}
 use Rattle.ts_demux.specs.declared.demuxed.PesUnit.{PesUnit}
+use Rattle.version_table.specs.declared.limits.TheConstants.{VERSIONS_MOST}
 use Rattle.program_reader.specs.declared.limits.TheConstants.{FILE_BYTES_MOST, PES_PACKETS_MOST}
 use Rattle.program_reader.specs.declared.passed_units.PassedUnits.{PassedUnits}
 use Rattle.program_reader.specs.declared.pes_packets.PlacedPacket.{PlacedPacket}
 use Rattle.program_reader.specs.declared.program_fault.ProgramFault.{ProgramFault}
 use Rattle.program_reader.specs.declared.timed_picture.TimedPicture.{TimedPicture}
 use Rattle.program_reader.specs.declared.unit_sizes.SizesWanted.{SizesWanted}
+use Rattle.program_reader.specs.declared.video_places.VideoPlaces.{VideoPlaces}
 use Rattle.program_reader.specs.declared.video_walk.VideoWalk.{VideoWalk}
 use Rattle.program_reader.specs.declared.video_walk.WalkedVideo.{WalkedVideo}
+use Rattle.program_reader.specs.KeptUnits.{AreRows, first_of, kept_at}
 use Rattle.program_reader.specs.Packets.{joined, packets_dropped, placed_from}
 use Rattle.program_reader.specs.Programs.{HasPictures}
-use Rattle.program_reader.specs.Units.{IsUnitsFault}
-use Rattle.program_reader.specs.Private.AudioStarts.{IsNear}
-use Rattle.program_reader.specs.Private.Dues.{IsTime}
-use Rattle.program_reader.specs.Private.KeptUnits.{AreRows}
-use Rattle.program_reader.specs.Private.PassedVideo.{ReadsTo}
+use Rattle.program_reader.specs.Sizes.{AreSizedSoFar}
+use Rattle.program_reader.specs.TimesWalk.{HasPassed}
+use Rattle.program_reader.specs.Units.{AreInOrder, IsUnitsFault, last_of, state_behind}
 
 -- the sizes that are wanted of the units that it reads
 abbrev pub wanted_of : VideoWalk → SizesWanted
@@ -30,18 +34,53 @@ pub record AreFew (packets : List PesUnit) : Type 0 where
   pub packets_few : length packets ≤ PES_PACKETS_MOST
   pub bytes_few : length (joined packets) ≤ FILE_BYTES_MOST
 
+-- ---- what is read, whatever PES packets follow
+
+-- the PES packets of a video and its pictures stand at these places
+pub record Stand (packets : List PesUnit) (places : VideoPlaces) : Type 0 where
+  pub placed : places.packets.items ≡ placed_from 0 packets
+  pub bytes : places.bytes ≡ length (joined packets)
+  pub found : HasFound (joined packets) places.pictures.items places.finder
+
+-- where the last one of some units ends, which begin at a place
+abbrev pub end_of : ℕ → List (ℕ × ℕ) → ℕ
+end_of from [] = from
+end_of from (unit ∷ units) = end_of unit.1 units
+
+-- Units that have ended are kept: whatever packets follow, they are these pictures, each behind those before it, and have these sizes, where sizes are wanted.
+-- Their times were looked up.
+pub record HavePassed (packets : List PesUnit) (places : VideoPlaces) (given : List (ℕ × ℕ)) (units : PassedUnits) : Type 0 where
+  pub pictures : List TimedPicture
+  pub in_order : (more : List PesUnit) → AreInOrder (joined (packets ++ more)) (placed_from 0 (packets ++ more)) [] given pictures
+  pub rows : AreRows given pictures units.kept.units.items
+  pub first_is : units.kept.first ≡ first_of pictures
+  pub last_is : units.kept.last ≡ last_of pictures
+  pub none_dropped : units.kept.dropped ≡ 0
+  pub sized : units.wanted.are_wanted ≡ true → (more : List PesUnit)
+      → AreSizedSoFar (joined (packets ++ more)) units.wanted.coarser.now (state_behind units.kept.last) (map kept_at units.kept.units.items) units.sizes.items
+  pub coarser : length units.wanted.coarser.now < VERSIONS_MOST
+  pub passed : HasPassed places.pictures.items places.packets.items (end_of 0 given) units.times
+
+-- All PES packets of a video have passed, and of its bytes so many are cut into units, which are kept.
+pub record ReadsTo (packets : List PesUnit) (at : ℕ) (places : VideoPlaces) (cutter : UnitCutter) (units : PassedUnits) : Type 0 where
+  pub stand : Stand packets places
+  pub within : at ≤ length (joined packets)
+  pub given : List (ℕ × ℕ)
+  pub cut : HasCut (take at (joined packets)) given cutter
+  pub most : most_kept cutter ≡ FILE_BYTES_MOST
+  pub read : HavePassed packets places given units
+
 -- a video is cut into units, one of which is refused, first for this
 pub record HasUnitFault (es : List ℕ) (packets : List PlacedPacket) (fault : ProgramFault) : Type 0 where
   pub units : Units
   pub units_are : cut_units es ≡ Some units
   pub fault_is : IsUnitsFault es packets units.cuts fault
 
--- the first unit that is refused is refused for this in every video whose PES packets begin with these
+-- whatever packets follow, the first unit of the video that is refused is refused for this
 abbrev pub AreRefused : List PesUnit → ProgramFault → Type 0
 AreRefused packets fault = (more : List PesUnit) → HasUnitFault (joined (packets ++ more)) (placed_from 0 (packets ++ more)) fault
 
--- These PES packets have passed. Where a unit is refused this is known, whatever packets follow; else so many of their bytes are cut into units, each of which
--- is a picture behind those before it, whatever packets follow.
+-- units are read, or one is refused
 abbrev pub Reads : List PesUnit → (at : ℕ) → (refused : Option ProgramFault) → VideoWalk → Type 0
 Reads packets at None walk = ReadsTo packets at walk.places walk.cutter walk.units
 Reads packets at (Some fault) walk = AreRefused packets fault
@@ -58,20 +97,10 @@ abbrev pub AreAll : List PesUnit → Option PesUnit → List PesUnit → Type 0
 AreAll packets None all = (packets ≡ []) × (all ≡ [])
 AreAll packets (Some last) all = all ≡ packets ++ last ∷ []
 
--- a video is that of units which are read, beside which so many units and PES packets are dropped
-pub record IsVideoOf (units : PassedUnits) (units_dropped pes_dropped : ℕ) (video : WalkedVideo) : Type 0 where
-  pub first_is : units.kept.first ≡ Some video.first
-  pub rows_are : video.units.items ≡ units.kept.units.items
-  pub sizes_are : video.sizes.items ≡ units.sizes.items
-  pub dropped_is : video.units_dropped ≡ min (units_dropped + units.kept.dropped) (2 ^ 32 - 1)
-  pub pes_dropped_is : video.pes_dropped ≡ pes_dropped
-
 -- The video of what is taken out of a file has these units with their times, kinds and roles.
 pub record IsVideoWalked (demuxed : Demuxed) (video : WalkedVideo) : Type 0 where
   pub kept : List (ℕ × ℕ)
   pub pictures : List TimedPicture
   pub has_pictures : HasPictures demuxed kept video.first pictures video.units_dropped
   pub rows : AreRows kept pictures video.units.items
-  pub near : IsNear 0 video.first.stated
-  pub ticks : All (λ unit. IsTime unit.ticks) video.units.items
   pub pes_dropped_is : video.pes_dropped ≡ packets_dropped true demuxed.video

@@ -1,9 +1,9 @@
 //! The units of a video that are kept, with their times.
 ghost use Rattle.std.specs.Prelude.{◌≡◌, ◌⊎◌, ◌+◌, ◌≤◌, ◌<◌, ◌^◌, ◌++◌, ◌∷◌, [], All, length, Some, None, true, map, IfOk, MatchResult, OnOk, unwrap_or};
 ghost use Rattle.program_reader.specs.declared.program_fault.ProgramFault.TheVariants.{OutOfMemory};
+ghost use Rattle.program_reader.specs.KeptUnits.{row_of, kept_at};
 ghost use Rattle.program_reader.specs.Units.{IsUnitsFault};
-ghost use Rattle.program_reader.specs.Private.KeptUnits.{IsVideo, Fits, row_of, AreUnitsKept};
-ghost use Rattle.program_reader.specs.Private.SizedUnits.{kept_at};
+ghost use Rattle.program_reader.specs.Private.KeptUnits.{IsVideo, Fits, AreUnitsKept};
 ghost use Rattle.program_reader.specs.Sizes.{AreUnitSizes};
 
 use crate::limits::FILE_BYTES_MOST;

@@ -10,7 +10,8 @@ ghost use Rattle.program_reader.specs.Packets.{joined};
 ghost use Rattle.program_reader.specs.PictureTimes.{times_of_unit};
 ghost use Rattle.program_reader.specs.TimesWalk.{HasPassed};
 ghost use Rattle.program_reader.specs.Units.{state_behind, unit_bytes};
-ghost use Rattle.program_reader.specs.Private.PassedVideo.{Stand, IsKeptAs, IsReadAs};
+ghost use Rattle.program_reader.specs.VideoWalk.{Stand};
+ghost use Rattle.program_reader.specs.Private.PassedVideo.{IsKeptAs, IsReadAs};
 ghost use Rattle.program_reader.specs.Private.SizedUnits.{IsSizedFound};
 ghost use Rattle.program_reader.specs.Private.TimedPictures.{IsPossible, IsFound, IsNotFound, LastTells};
 

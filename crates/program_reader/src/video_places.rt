@@ -4,7 +4,7 @@ ghost use Rattle.es_units.specs.PictureFinder.{HasFound, bytes_passed};
 ghost use Rattle.pes_units.specs.PesHeader.{pes_fields_of};
 ghost use Rattle.ts_demux.specs.declared.demuxed.PesUnit.{PesUnit};
 ghost use Rattle.program_reader.specs.Packets.{pes_payload_of};
-ghost use Rattle.program_reader.specs.Private.PassedVideo.{Stand};
+ghost use Rattle.program_reader.specs.VideoWalk.{Stand};
 
 use crate::pes_packets::PlacedPacket;
 use es_units::PictureFinder;

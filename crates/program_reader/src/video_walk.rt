@@ -7,11 +7,12 @@ ghost use Rattle.ts_demux.specs.declared.demuxed.Demuxed.{Demuxed};
 ghost use Rattle.ts_demux.specs.declared.demuxed.PesUnit.{PesUnit};
 ghost use Rattle.program_reader.specs.declared.program_fault.ProgramFault.TheVariants.{OutOfMemory, Refused};
 ghost use Rattle.program_reader.specs.declared.program_fault.SourceKind.TheVariants as kinds;
+ghost use Rattle.program_reader.specs.KeptUnits.{kept_at};
 ghost use Rattle.program_reader.specs.Packets.{AreSound, IsPacketFault, joined, packets_dropped, taken};
 ghost use Rattle.program_reader.specs.Programs.{IsDemuxedRefused, video_bytes};
 ghost use Rattle.program_reader.specs.Sizes.{AreUnitSizes};
-ghost use Rattle.program_reader.specs.VideoWalk.{AreAll, AreFew, HasRead, IsVideoOf, IsVideoWalked, Reads, wanted_of};
-ghost use Rattle.program_reader.specs.Private.SizedUnits.{kept_at};
+ghost use Rattle.program_reader.specs.VideoWalk.{AreAll, AreFew, HasRead, IsVideoWalked, Reads, wanted_of};
+ghost use Rattle.program_reader.specs.Private.PassedVideo.{IsVideoOf};
 ghost use Rattle.program_reader.specs.Private.TakenPackets.{IsFaultOf};
 
 use crate::kept_units::KeptUnit;

@@ -5,9 +5,9 @@ use Rattle.pes_units.specs.Times.{decoding_time}
 use Rattle.program_reader.specs.declared.timed_picture.TimedPicture.{TimedPicture}
 use Rattle.program_reader.specs.declared.unit_picture.TimedUnit.{TimedUnit}
 use Rattle.program_reader.specs.declared.unit_sizes.UnitSizes.{UnitSizes}
+use Rattle.program_reader.specs.KeptUnits.{kept_at}
 use Rattle.program_reader.specs.Sizes.{AreUnitSizes}
 use Rattle.program_reader.specs.Units.{state_behind, unit_bytes}
-use Rattle.program_reader.specs.Private.SizedUnits.{kept_at}
 use Rattle.program_reader.specs.Private.TimedPictures.{IsPossible}
 use Rattle.program_reader.proofs.TimeRange.{IsInRange}
 use Rattle.program_reader.proofs.KeepLemmas.{
