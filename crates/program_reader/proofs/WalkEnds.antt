@@ -320,6 +320,16 @@ module _ (demuxed : Demuxed) (packets : List PesUnit) (taken_is : taken true dem
       (nothing_kept demuxed units is.units is.pictures read.kept.dropped has no_units no_pictures
       (subst (λ (ps : List PesUnit). AreKept (joined ps) (placed_from 0 ps) units.cuts is.units is.pictures read.kept.dropped) (sym taken_is) is.kept_are)) refl))
 
+-- their sizes
+pub walked_sizes : (es coarser : List ℕ) (read : PassedUnits) (dropped pes_dropped : ℕ) (result : Result WalkedVideo ProgramFault)
+    → AreUnitSizes es coarser None (map kept_at read.kept.units.items) read.sizes.items
+    → MatchResult result (IsVideoOf read dropped pes_dropped) (λ fault. (read.kept.first ≡ None) × (fault ≡ Refused kinds.NoSequence 0))
+    → IfOk result (λ video. AreUnitSizes es coarser None (map kept_at video.units.items) video.sizes.items)
+walked_sizes es coarser read dropped pes_dropped (Err fault) sized walked = tt
+walked_sizes es coarser read dropped pes_dropped (Ok video) sized walked =
+    subst (λ (rows : List KeptUnit). AreUnitSizes es coarser None (map kept_at rows) video.sizes.items) (sym walked.rows_are)
+    (subst (λ (ss : List UnitSizes). AreUnitSizes es coarser None (map kept_at read.kept.units.items) ss) (sym walked.sizes_are) sized)
+
 -- ---- the last packet
 
 -- fewer packets are few too

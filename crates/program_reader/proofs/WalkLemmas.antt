@@ -343,3 +343,11 @@ reads_here packets at refused walk none reads = subst (λ (r : Option ProgramFau
 pub reads_there : (packets : List PesUnit) (at : ℕ) (refused : Option ProgramFault) (walk : VideoWalk) → refused ≡ None → ReadsTo packets at walk.places walk.cutter walk.units
     → Reads packets at refused walk
 reads_there packets at refused walk none reads = subst (λ (r : Option ProgramFault). Reads packets at r walk) (sym none) reads
+
+pub not_refused : (refused : Option ProgramFault) → is_some refused ≡ false → refused ≡ None
+not_refused None is = refl
+not_refused (Some fault) is = absurd cc
+
+pub refused_known : (packets : List PesUnit) (at : ℕ) (refused : Option ProgramFault) (fault : ProgramFault) (walk : VideoWalk) → refused ≡ Some fault → Reads packets at refused walk
+    → AreRefused packets fault
+refused_known packets at refused fault walk is reads = subst (λ (r : Option ProgramFault). Reads packets at r walk) is reads

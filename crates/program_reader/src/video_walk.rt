@@ -11,7 +11,7 @@ ghost use Rattle.program_reader.specs.KeptUnits.{kept_at};
 ghost use Rattle.program_reader.specs.Packets.{AreSound, IsPacketFault, joined, packets_dropped, taken};
 ghost use Rattle.program_reader.specs.Programs.{IsDemuxedRefused, video_bytes};
 ghost use Rattle.program_reader.specs.Sizes.{AreUnitSizes};
-ghost use Rattle.program_reader.specs.VideoWalk.{AreAll, AreFew, HasRead, IsVideoWalked, Reads, wanted_of};
+ghost use Rattle.program_reader.specs.VideoWalk.{AreAll, AreFew, HasRead, IsVideoWalked, Reads, ReadsTo, wanted_of};
 ghost use Rattle.program_reader.specs.Private.PassedVideo.{IsVideoOf};
 ghost use Rattle.program_reader.specs.Private.TakenPackets.{IsFaultOf};
 
@@ -181,7 +181,7 @@ impl<'a> VideoWalk<'a> {
         }
     }
 
-    /// Ends the walk behind all PES packets that are taken, beside which so many are dropped: reads the last unit.
+    /// Ends the walk behind all PES packets that are taken, beside which so many are dropped.
     fn finish(self, pes_dropped: u32) -> Result<WalkedVideo, ProgramFault>
         requires read { (packets : List PesUnit) × Reads packets (length (joined packets)) self.refused self × AreFew packets }
         ensures video { (packets : List PesUnit) (demuxed : Demuxed) → Reads packets (length (joined packets)) self.refused self → AreFew packets → AreSound true demuxed.video →
@@ -190,9 +190,21 @@ impl<'a> VideoWalk<'a> {
         ensures sizes { (packets : List PesUnit) → Reads packets (length (joined packets)) self.refused self → AreFew packets → (wanted_of self).are_wanted ≡ true →
             IfOk result (λ video. AreUnitSizes (joined packets) (wanted_of self).coarser.now None (map kept_at video.units.items) video.sizes.items) }
     {
-        if let Some(fault) = self.refused {
-            return Err(fault);
+        match self.refused {
+            Some(fault) => Err(fault),
+            None => self.read_last(pes_dropped),
         }
+    }
+
+    /// The same where no unit was refused: reads the last unit.
+    fn read_last(self, pes_dropped: u32) -> Result<WalkedVideo, ProgramFault>
+        requires read { (packets : List PesUnit) × ReadsTo packets (length (joined packets)) self.places self.cutter self.units × AreFew packets }
+        ensures video { (packets : List PesUnit) (demuxed : Demuxed) → ReadsTo packets (length (joined packets)) self.places self.cutter self.units → AreFew packets →
+            AreSound true demuxed.video → taken true demuxed.video ≡ packets → pes_dropped ≡ packets_dropped true demuxed.video →
+            MatchResult result (IsVideoWalked demuxed) (λ fault. (fault ≡ OutOfMemory) ⊎ IsDemuxedRefused demuxed fault) }
+        ensures sizes { (packets : List PesUnit) → ReadsTo packets (length (joined packets)) self.places self.cutter self.units → AreFew packets → (wanted_of self).are_wanted ≡ true →
+            IfOk result (λ video. AreUnitSizes (joined packets) (wanted_of self).coarser.now None (map kept_at video.units.items) video.sizes.items) }
+    {
         let VideoWalk {
             alloc,
             places,
