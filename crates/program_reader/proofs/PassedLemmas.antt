@@ -351,12 +351,12 @@ module _ (packets : List PesUnit) (places : VideoPlaces) (given : List (ℕ × �
       subst (λ (w : SizesWanted). w.are_wanted ≡ true → (more : List PesUnit)
       → AreSizedSoFar (joined (packets ++ more)) w.coarser.now (state_behind behind.kept.last) (map kept_at behind.kept.units.items) behind.sizes.items) (sym wanted)
       (λ want more.
-        let es = joined (packets ++ more) in
-        let within : unit.end ≤ length es = omega (arith, follows.within, longer packets more) in
-        let own : IsSizedBehind (state_behind old.kept.last) (unit_bytes es (place_of unit)) old.wanted.coarser.now old.wanted.are_wanted old.sizes.items behind.sizes.items =
-        subst (λ (xs : List ℕ). IsSizedBehind (state_behind old.kept.last) xs old.wanted.coarser.now old.wanted.are_wanted old.sizes.items behind.sizes.items) (bytes_here more) sized in
-        sized_more es es (placed_from 0 (packets ++ more)) old.wanted.coarser.now old.wanted.are_wanted earlier_here old.kept.last (place_of unit) picture old.kept behind.kept old.sizes.items
-        behind.sizes.items refl refl nearest_here follows.order within (next_here picture is more) own kept.0 kept.2 (λ want. have.sized want more) want)
+      let es = joined (packets ++ more) in
+      let within : unit.end ≤ length es = omega (arith, follows.within, longer packets more) in
+      let own : IsSizedBehind (state_behind old.kept.last) (unit_bytes es (place_of unit)) old.wanted.coarser.now old.wanted.are_wanted old.sizes.items behind.sizes.items =
+      subst (λ (xs : List ℕ). IsSizedBehind (state_behind old.kept.last) xs old.wanted.coarser.now old.wanted.are_wanted old.sizes.items behind.sizes.items) (bytes_here more) sized in
+      sized_more es es (placed_from 0 (packets ++ more)) old.wanted.coarser.now old.wanted.are_wanted earlier_here old.kept.last (place_of unit) picture old.kept behind.kept old.sizes.items
+      behind.sizes.items refl refl nearest_here follows.order within (next_here picture is more) own kept.0 kept.2 (λ want. have.sized want more) want)
 
 -- ---- times that are looked up
 

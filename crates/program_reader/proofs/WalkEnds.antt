@@ -231,8 +231,9 @@ module _ (packets : List PesUnit) (places : VideoPlaces) (cutter : UnitCutter) (
 
       -- or it is refused
       pub refused_end : (fault : ProgramFault) → result ≡ Err fault → (fault ≡ OutOfMemory) ⊎ IsUnitsFault es ps (reads.given ++ place_of unit ∷ []) fault
-      refused_end fault is = by_fault (subst (λ (r : Result (Option TimedPicture) ProgramFault). MatchResult r (IsFound es ps earlier units.kept.last (timed_as unit read.times true))
-      (IsNotFound es ps units.kept.last (timed_as unit read.times true))) is found_all)
+      refused_end fault is =
+          by_fault (subst (λ (r : Result (Option TimedPicture) ProgramFault). MatchResult r (IsFound es ps earlier units.kept.last (timed_as unit read.times true))
+          (IsNotFound es ps units.kept.last (timed_as unit read.times true))) is found_all)
         where
           by_fault : (fault ≡ OutOfMemory) ⊎ IsUnitRefused es ps units.kept.last (place_of unit) true fault
               → (fault ≡ OutOfMemory) ⊎ IsUnitsFault es ps (reads.given ++ place_of unit ∷ []) fault
@@ -247,25 +248,26 @@ module _ (packets : List PesUnit) (places : VideoPlaces) (cutter : UnitCutter) (
             refused = subst (λ (b : Option TimedPicture). IsUnitRefused es ps b (place_of unit) true fault) have.last_is refused;
           })
 
+      -- the sizes of those before it
+      sized_here : units.wanted.are_wanted ≡ true → AreSizedSoFar es units.wanted.coarser.now (state_behind units.kept.last) (map kept_at units.kept.units.items) units.sizes.items
+      sized_here want =
+          subst (λ (qs : List PesUnit). AreSizedSoFar (joined qs) units.wanted.coarser.now (state_behind units.kept.last) (map kept_at units.kept.units.items) units.sizes.items) (append-nil packets)
+          (have.sized want [])
+
       -- the sizes of all
       pub sized_end : (found : Option TimedPicture) → result ≡ Ok found → IsKeptAs units.kept (place_of unit) found behind.kept → behind.wanted ≡ units.wanted
           → IsSizedFound (state_behind units.kept.last) unit.bytes.now units.wanted.coarser.now units.wanted.are_wanted units.sizes.items behind.sizes.items found
           → units.wanted.are_wanted ≡ true → AreUnitSizes es units.wanted.coarser.now None (map kept_at behind.kept.units.items) behind.sizes.items
       sized_end None is kept wanted sized want =
-          let so_far = subst (λ (qs : List PesUnit). AreSizedSoFar (joined qs) units.wanted.coarser.now (state_behind units.kept.last) (map kept_at units.kept.units.items) units.sizes.items)
-          (append-nil packets) (have.sized want []) in
           subst (λ (ss : List UnitSizes). AreUnitSizes es units.wanted.coarser.now None (map kept_at behind.kept.units.items) ss) (sym sized)
           (subst (λ (rows : List KeptUnit). AreUnitSizes es units.wanted.coarser.now None (map kept_at rows) units.sizes.items) (sym kept.0)
-          (sized_all es units.wanted.coarser.now (state_behind units.kept.last) (map kept_at units.kept.units.items) units.sizes.items so_far))
+          (sized_all es units.wanted.coarser.now (state_behind units.kept.last) (map kept_at units.kept.units.items) units.sizes.items (sized_here want)))
       sized_end (Some picture) is kept wanted sized want =
-          let so_far : (units.wanted.are_wanted ≡ true → AreSizedSoFar es units.wanted.coarser.now (state_behind units.kept.last) (map kept_at units.kept.units.items) units.sizes.items) =
-          λ want. subst (λ (qs : List PesUnit). AreSizedSoFar (joined qs) units.wanted.coarser.now (state_behind units.kept.last) (map kept_at units.kept.units.items) units.sizes.items)
-          (append-nil packets) (have.sized want []) in
           let own_sized : IsSizedBehind (state_behind units.kept.last) (unit_bytes es (place_of unit)) units.wanted.coarser.now units.wanted.are_wanted units.sizes.items behind.sizes.items =
           subst (λ (xs : List ℕ). IsSizedBehind (state_behind units.kept.last) xs units.wanted.coarser.now units.wanted.are_wanted units.sizes.items behind.sizes.items) bytes_last sized in
           sized_all es units.wanted.coarser.now (state_behind behind.kept.last) (map kept_at behind.kept.units.items) behind.sizes.items
           (sized_more es es ps units.wanted.coarser.now units.wanted.are_wanted earlier units.kept.last (place_of unit) picture units.kept behind.kept units.sizes.items behind.sizes.items refl refl
-          nearest_all follows_last.order follows_last.within (next_all picture is) own_sized kept.0 kept.2 so_far want)
+          nearest_all follows_last.order follows_last.within (next_all picture is) own_sized kept.0 kept.2 sized_here want)
 
 -- ---- what is answered
 
