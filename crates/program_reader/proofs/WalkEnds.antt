@@ -77,7 +77,7 @@ use Rattle.program_reader.specs.Programs.{HasUnits, IsDemuxedRefused, video_byte
 use Rattle.program_reader.specs.Sizes.{AreSizedSoFar, AreUnitSizes}
 use Rattle.program_reader.specs.TimesWalk.{HasPassed}
 use Rattle.program_reader.specs.Units.{AreInOrder, AreKept, IsBroken, IsNext, IsUnitRefused, IsUnitsFault, last_of, state_behind, unit_bytes}
-use Rattle.program_reader.specs.VideoWalk.{AreFew, AreRefused, HasUnitFault, HavePassed, IsVideoWalked, ReadsTo, Stand, end_of}
+use Rattle.program_reader.specs.VideoWalk.{AreFew, AreRefused, HasUnitFault, HavePassed, IsFaultBefore, IsVideoWalked, ReadsTo, Stand, end_of}
 use Rattle.program_reader.specs.Private.PassedVideo.{IsKeptAs, timed_as, IsReadAs, IsVideoOf}
 use Rattle.program_reader.specs.Private.SizedUnits.{IsSizedBehind, IsSizedFound}
 use Rattle.program_reader.specs.Private.TakenPackets.{IsFaultOf}
@@ -323,14 +323,14 @@ module _ (demuxed : Demuxed) (packets : List PesUnit) (taken_is : taken true dem
       (subst (λ (ps : List PesUnit). AreKept (joined ps) (placed_from 0 ps) units.cuts is.units is.pictures read.kept.dropped) (sym taken_is) is.kept_are)) refl))
 
 -- their sizes
-pub walked_sizes : (es coarser : List ℕ) (read : PassedUnits) (dropped pes_dropped : ℕ) (result : Result WalkedVideo ProgramFault)
-    → AreUnitSizes es coarser None (map kept_at read.kept.units.items) read.sizes.items
+pub walked_sizes : (bytes coarser : List ℕ) (read : PassedUnits) (dropped pes_dropped : ℕ) (result : Result WalkedVideo ProgramFault)
+    → AreUnitSizes bytes coarser None (map kept_at read.kept.units.items) read.sizes.items
     → MatchResult result (IsVideoOf read dropped pes_dropped) (λ fault. (read.kept.first ≡ None) × (fault ≡ Refused kinds.NoSequence 0))
-    → IfOk result (λ video. AreUnitSizes es coarser None (map kept_at video.units.items) video.sizes.items)
-walked_sizes es coarser read dropped pes_dropped (Err fault) sized walked = tt
-walked_sizes es coarser read dropped pes_dropped (Ok video) sized walked =
-    subst (λ (rows : List KeptUnit). AreUnitSizes es coarser None (map kept_at rows) video.sizes.items) (sym walked.rows_are)
-    (subst (λ (ss : List UnitSizes). AreUnitSizes es coarser None (map kept_at read.kept.units.items) ss) (sym walked.sizes_are) sized)
+    → IfOk result (λ video. AreUnitSizes bytes coarser None (map kept_at video.units.items) video.sizes.items)
+walked_sizes bytes coarser read dropped pes_dropped (Err fault) sized walked = tt
+walked_sizes bytes coarser read dropped pes_dropped (Ok video) sized walked =
+    subst (λ (rows : List KeptUnit). AreUnitSizes bytes coarser None (map kept_at rows) video.sizes.items) (sym walked.rows_are)
+    (subst (λ (ss : List UnitSizes). AreUnitSizes bytes coarser None (map kept_at read.kept.units.items) ss) (sym walked.sizes_are) sized)
 
 -- ---- the last packet
 
@@ -385,7 +385,7 @@ ends_dropped packets all last found whole all_are sound found_is none =
 
 -- a packet that another one follows has this fault
 pub fault_whole : (packets : List PesUnit) (packet : PesUnit) (fault : ProgramFault) → All (IsWhole true) packets → IsFaultOf packet.at (packet_refusal true packet.bytes) fault
-    → (fault ≡ OutOfMemory) ⊎ ((next : PesUnit) (more : List PesUnit) → IsPacketFault true (packets ++ packet ∷ next ∷ more) fault)
+    → (fault ≡ OutOfMemory) ⊎ IsFaultBefore packets packet fault
 fault_whole packets packet fault whole (inl memory) = inl memory
 fault_whole packets packet fault whole (inr found) = inr (λ next more. record {
   before = packets;

@@ -19,7 +19,7 @@ use Rattle.program_reader.specs.declared.video_places.VideoPlaces.{VideoPlaces}
 use Rattle.program_reader.specs.declared.video_walk.VideoWalk.{VideoWalk}
 use Rattle.program_reader.specs.declared.video_walk.WalkedVideo.{WalkedVideo}
 use Rattle.program_reader.specs.KeptUnits.{AreRows, first_of, kept_at}
-use Rattle.program_reader.specs.Packets.{joined, packets_dropped, placed_from}
+use Rattle.program_reader.specs.Packets.{IsPacketFault, joined, packets_dropped, placed_from}
 use Rattle.program_reader.specs.Programs.{HasPictures}
 use Rattle.program_reader.specs.Sizes.{AreSizedSoFar}
 use Rattle.program_reader.specs.TimesWalk.{HasPassed}
@@ -89,6 +89,10 @@ Reads packets at (Some fault) walk = AreRefused packets fault
 pub record HasRead (packets : List PesUnit) (walk : VideoWalk) : Type 0 where
   pub sound : All (λ packet. packet_refusal true packet.bytes ≡ None) packets
   pub reads : Reads packets (length (joined packets)) walk.refused walk
+
+-- whatever packets follow this one, it is the first of the video that has a fault, and has this one
+abbrev pub IsFaultBefore : List PesUnit → PesUnit → ProgramFault → Type 0
+IsFaultBefore packets packet fault = (next : PesUnit) (more : List PesUnit) → IsPacketFault true (packets ++ packet ∷ next ∷ more) fault
 
 -- ---- at its end
 

@@ -42,7 +42,7 @@ pub struct PassedUnits<'a> {
 impl<'a> PassedUnits<'a> {
     /// None are read.
     pub fn new(alloc: Global, wanted: SizesWanted<'a>) -> Self
-        ensures wanted { result.wanted ≡ wanted }
+        ensures wanted { result.wanted ≡ wanted.entry }
         ensures units { result.kept.units.items ≡ [] }
         ensures first { result.kept.first ≡ None }
         ensures last { result.kept.last ≡ None }

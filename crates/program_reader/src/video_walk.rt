@@ -5,13 +5,13 @@ ghost use Rattle.pes_units.specs.PesHeader.{pes_fields_of};
 ghost use Rattle.pes_units.specs.PesPackets.{is_dropped, last_refusal, packet_refusal};
 ghost use Rattle.ts_demux.specs.declared.demuxed.Demuxed.{Demuxed};
 ghost use Rattle.ts_demux.specs.declared.demuxed.PesUnit.{PesUnit};
-ghost use Rattle.program_reader.specs.declared.program_fault.ProgramFault.TheVariants.{OutOfMemory, Refused};
+ghost use Rattle.program_reader.specs.declared.program_fault.ProgramFault.TheVariants as faults;
 ghost use Rattle.program_reader.specs.declared.program_fault.SourceKind.TheVariants as kinds;
 ghost use Rattle.program_reader.specs.KeptUnits.{kept_at};
-ghost use Rattle.program_reader.specs.Packets.{AreSound, IsPacketFault, joined, packets_dropped, taken};
+ghost use Rattle.program_reader.specs.Packets.{AreSound, joined, packets_dropped, taken};
 ghost use Rattle.program_reader.specs.Programs.{IsDemuxedRefused, video_bytes};
 ghost use Rattle.program_reader.specs.Sizes.{AreUnitSizes};
-ghost use Rattle.program_reader.specs.VideoWalk.{AreAll, AreFew, HasRead, IsVideoWalked, Reads, ReadsTo, wanted_of};
+ghost use Rattle.program_reader.specs.VideoWalk.{AreAll, AreFew, HasRead, IsFaultBefore, IsVideoWalked, Reads, ReadsTo, wanted_of};
 ghost use Rattle.program_reader.specs.Private.PassedVideo.{IsVideoOf};
 ghost use Rattle.program_reader.specs.Private.TakenPackets.{IsFaultOf};
 
@@ -69,7 +69,7 @@ impl<'a> VideoWalk<'a> {
     pub fn new(alloc: Global, wanted: SizesWanted<'a>) -> Self
         requires coarser { length wanted.coarser.now < VERSIONS_MOST }
         ensures read { HasRead [] result }
-        ensures wanted { wanted_of result ≡ wanted }
+        ensures wanted { wanted_of result ≡ wanted.entry }
     {
         VideoWalk {
             alloc,
@@ -86,7 +86,7 @@ impl<'a> VideoWalk<'a> {
         requires read { (packets : List PesUnit) × HasRead packets self.old × AreFew (packets ++ packet.now ∷ []) }
         ensures read { (packets : List PesUnit) → HasRead packets self.old → AreFew (packets ++ packet.now ∷ []) → OnOk result (HasRead (packets ++ packet.now ∷ []) self.new) }
         ensures refused { (packets : List PesUnit) → HasRead packets self.old →
-            IfErr result (λ fault. (fault ≡ OutOfMemory) ⊎ ((next : PesUnit) (more : List PesUnit) → IsPacketFault true (packets ++ packet.now ∷ next ∷ more) fault)) }
+            IfErr result (λ fault. (fault ≡ faults.OutOfMemory) ⊎ IsFaultBefore packets packet.now fault) }
         ensures wanted { wanted_of self.new ≡ wanted_of self.old }
     {
         let header = match whole_header(packet) {
@@ -101,11 +101,11 @@ impl<'a> VideoWalk<'a> {
     /// refusal, or want of memory.
     pub fn end(self, last: Option<&PesUnit>) -> Result<WalkedVideo, ProgramFault>
         requires read { (packets : List PesUnit) × (all : List PesUnit) × HasRead packets self × AreAll packets (option_copied last) all × AreFew all }
-        ensures video { (packets : List PesUnit) (demuxed : Demuxed) → HasRead packets self → AreAll packets (option_copied last) demuxed.video → AreFew demuxed.video →
-            MatchResult result (IsVideoWalked demuxed) (λ fault. (fault ≡ OutOfMemory) ⊎ IsDemuxedRefused demuxed fault) }
-        ensures sizes { (packets : List PesUnit) (demuxed : Demuxed) → HasRead packets self → AreAll packets (option_copied last) demuxed.video → AreFew demuxed.video →
-            (wanted_of self).are_wanted ≡ true →
-            IfOk result (λ video. AreUnitSizes (video_bytes demuxed) (wanted_of self).coarser.now None (map kept_at video.units.items) video.sizes.items) }
+        ensures video { (packets : List PesUnit) (demuxed : Demuxed) → HasRead packets self.entry → AreAll packets (option_copied last.entry) demuxed.video → AreFew demuxed.video →
+            MatchResult result (IsVideoWalked demuxed) (λ fault. (fault ≡ faults.OutOfMemory) ⊎ IsDemuxedRefused demuxed fault) }
+        ensures sizes { (packets : List PesUnit) (demuxed : Demuxed) → HasRead packets self.entry → AreAll packets (option_copied last.entry) demuxed.video → AreFew demuxed.video →
+            (wanted_of self.entry).are_wanted ≡ true →
+            IfOk result (λ video. AreUnitSizes (video_bytes demuxed) (wanted_of self.entry).coarser.now None (map kept_at video.units.items) video.sizes.items) }
     {
         let mut walk = self;
         let Some(last) = last else {
@@ -184,11 +184,11 @@ impl<'a> VideoWalk<'a> {
     /// Ends the walk behind all PES packets that are taken, beside which so many are dropped.
     fn finish(self, pes_dropped: u32) -> Result<WalkedVideo, ProgramFault>
         requires read { (packets : List PesUnit) × Reads packets (length (joined packets)) self.refused self × AreFew packets }
-        ensures video { (packets : List PesUnit) (demuxed : Demuxed) → Reads packets (length (joined packets)) self.refused self → AreFew packets → AreSound true demuxed.video →
+        ensures video { (packets : List PesUnit) (demuxed : Demuxed) → Reads packets (length (joined packets)) self.entry.refused self.entry → AreFew packets → AreSound true demuxed.video →
             taken true demuxed.video ≡ packets → pes_dropped ≡ packets_dropped true demuxed.video →
-            MatchResult result (IsVideoWalked demuxed) (λ fault. (fault ≡ OutOfMemory) ⊎ IsDemuxedRefused demuxed fault) }
-        ensures sizes { (packets : List PesUnit) → Reads packets (length (joined packets)) self.refused self → AreFew packets → (wanted_of self).are_wanted ≡ true →
-            IfOk result (λ video. AreUnitSizes (joined packets) (wanted_of self).coarser.now None (map kept_at video.units.items) video.sizes.items) }
+            MatchResult result (IsVideoWalked demuxed) (λ fault. (fault ≡ faults.OutOfMemory) ⊎ IsDemuxedRefused demuxed fault) }
+        ensures sizes { (packets : List PesUnit) → Reads packets (length (joined packets)) self.entry.refused self.entry → AreFew packets → (wanted_of self.entry).are_wanted ≡ true →
+            IfOk result (λ video. AreUnitSizes (joined packets) (wanted_of self.entry).coarser.now None (map kept_at video.units.items) video.sizes.items) }
     {
         match self.refused {
             Some(fault) => Err(fault),
@@ -199,11 +199,11 @@ impl<'a> VideoWalk<'a> {
     /// The same where no unit was refused: reads the last unit.
     fn read_last(self, pes_dropped: u32) -> Result<WalkedVideo, ProgramFault>
         requires read { (packets : List PesUnit) × ReadsTo packets (length (joined packets)) self.places self.cutter self.units × AreFew packets }
-        ensures video { (packets : List PesUnit) (demuxed : Demuxed) → ReadsTo packets (length (joined packets)) self.places self.cutter self.units → AreFew packets →
+        ensures video { (packets : List PesUnit) (demuxed : Demuxed) → ReadsTo packets (length (joined packets)) self.entry.places self.entry.cutter self.entry.units → AreFew packets →
             AreSound true demuxed.video → taken true demuxed.video ≡ packets → pes_dropped ≡ packets_dropped true demuxed.video →
-            MatchResult result (IsVideoWalked demuxed) (λ fault. (fault ≡ OutOfMemory) ⊎ IsDemuxedRefused demuxed fault) }
-        ensures sizes { (packets : List PesUnit) → ReadsTo packets (length (joined packets)) self.places self.cutter self.units → AreFew packets → (wanted_of self).are_wanted ≡ true →
-            IfOk result (λ video. AreUnitSizes (joined packets) (wanted_of self).coarser.now None (map kept_at video.units.items) video.sizes.items) }
+            MatchResult result (IsVideoWalked demuxed) (λ fault. (fault ≡ faults.OutOfMemory) ⊎ IsDemuxedRefused demuxed fault) }
+        ensures sizes { (packets : List PesUnit) → ReadsTo packets (length (joined packets)) self.entry.places self.entry.cutter self.entry.units → AreFew packets → (wanted_of self.entry).are_wanted ≡ true →
+            IfOk result (λ video. AreUnitSizes (joined packets) (wanted_of self.entry).coarser.now None (map kept_at video.units.items) video.sizes.items) }
     {
         let VideoWalk {
             alloc,
@@ -252,7 +252,7 @@ fn walked_video(
     units_dropped: u32,
     pes_dropped: u32,
 ) -> Result<WalkedVideo, ProgramFault>
-    ensures { MatchResult result (IsVideoOf units units_dropped pes_dropped) (λ fault. (units.kept.first ≡ None) × (fault ≡ Refused kinds.NoSequence 0)) }
+    ensures { MatchResult result (IsVideoOf units.entry units_dropped pes_dropped) (λ fault. (units.entry.kept.first ≡ None) × (fault ≡ faults.Refused kinds.NoSequence 0)) }
 {
     let PassedUnits { kept, sizes, .. } = units;
     match kept.first {

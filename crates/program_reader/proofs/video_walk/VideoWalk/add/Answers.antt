@@ -6,7 +6,7 @@ use Rattle.program_reader.proofs.WalkEnds.{fault_whole}
 use Rattle.program_reader.proofs.video_walk.VideoWalk.add.Goals as goal
 
 pub take-requires-clause-read : goal.take-requires-clause-read
-take-requires-clause-read c = let (packets, has, few) = c.requires in (packets, has.reads, few)
+take-requires-clause-read c = let (packets, has, few) = c.requires.read in (packets, has.reads, few)
 
 pub returns-clause-read : goal.returns-clause-read
 returns-clause-read c packets has few = record {

@@ -1,9 +1,10 @@
-use Rattle.std.proofs.Common.{◌≡◌, ◌+◌, ℕ, List, Some, sym, subst, ◌∙◌, arith, refl}
+use Rattle.std.proofs.Common.{◌≡◌, ◌+◌, ℕ, List, Some, Err, ap, sym, subst, ◌∙◌, arith, refl}
+use Rattle.program_reader.specs.declared.program_fault.ProgramFault.{ProgramFault}
 use Rattle.program_reader.proofs.WalkLemmas.{bytes_short, follows, passed_here, possible_here, push_fits, reads_found, reads_here, reads_quiet, reads_refused, reads_there}
 use Rattle.program_reader.proofs.video_walk.VideoWalk.read_next.Goals as goal
 
-pub push-requires-clause-fits : goal.push-requires-clause-fits
-push-requires-clause-fits c =
+pub push-requires : goal.push-requires
+push-requires c =
     let (packets, at, has, few, left) = c.requires.read in
     let walk = c.args.self.now in
     omega (arith, push_fits packets at walk.places walk.cutter walk.units c.args.bytes.now few (reads_here packets at walk.refused walk c.requires.none has) left)
@@ -82,9 +83,9 @@ returns-in-Ok-clause-read c packets at has few left =
     (reads_found packets at walk.places walk.cutter c.push.new.self walk.units c.args.bytes.now c.in_ok-count.count few reads left c.in_ok-count.ensures.within c.in_ok-count.ensures.cut c.in_ok-count.ensures.most
     c.in-Some.unit (sym c.in-Some.ensures.place) c.in-Some.ensures.bytes c.read.new.self c.read.result c.read.ensures.read c.in-Ok.field-0 c.in-Ok.is c.in-Ok.ensures.kept c.read.ensures.wanted c.in-Ok.ensures.sizes c.read.ensures.passed)
 
-pub returns-in-Err-in-Refused-clause-read : goal.returns-in-Err-in-Refused-clause-read
-returns-in-Err-in-Refused-clause-read c packets at has few left =
+pub returns-in-Refused-clause-read : goal.returns-in-Refused-clause-read
+returns-in-Refused-clause-read c packets at has few left =
     let walk = c.args.self.now in
     let reads = reads_here packets at walk.refused walk c.requires.none has in
     reads_refused packets at walk.places walk.cutter c.push.new.self walk.units c.args.bytes.now c.in_ok-count.count few reads left c.in_ok-count.ensures.within c.in_ok-count.ensures.cut c.in_ok-count.ensures.most
-    c.in-Some.unit (sym c.in-Some.ensures.place) c.in-Some.ensures.bytes c.read.new.self c.read.result c.read.ensures.read c.in-Err.fault c.in-Err.is (λ memory. absurd cc)
+    c.in-Some.unit (sym c.in-Some.ensures.place) c.in-Some.ensures.bytes c.read.new.self c.read.result c.read.ensures.read _ (c.in-Err.is ∙ ap (λ (f : ProgramFault). Err f) c.in-Refused.is) (λ memory. absurd cc)

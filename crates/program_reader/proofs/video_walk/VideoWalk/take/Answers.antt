@@ -34,7 +34,7 @@ read_units-requires-clause-read c =
     let none = not_refused walk.refused (sym c.is_some.ensures ∙ c.if-is_some.false) in
     let reads = reads_here packets (length (joined packets)) walk.refused walk none has in
     let payload = payload_is packet c.args.header c.as_slice.result.now c.bytes_behind-payload.result.now c.requires.header c.as_slice.ensures c.bytes_behind-payload.ensures in
-    let stand = c.in_ok-add.ensures packets packet reads.stand c.requires.header payload in (
+    let stand = c.in_ok-add.ensures.stand packets packet reads.stand c.requires.header payload in (
       packets ++ packet ∷ [],
       length (joined packets),
       reads_there (packets ++ packet ∷ []) (length (joined packets)) walk.refused (record walk { places = c.add.new.self }) none
@@ -50,7 +50,7 @@ returns-clause-read c packets has few =
     let none = not_refused walk.refused (sym c.is_some.ensures ∙ c.if-is_some.false) in
     let reads = reads_here packets (length (joined packets)) walk.refused walk none has in
     let payload = payload_is packet c.args.header c.as_slice.result.now c.bytes_behind-payload.result.now c.requires.header c.as_slice.ensures c.bytes_behind-payload.ensures in
-    let stand = c.in_ok-add.ensures packets packet reads.stand c.requires.header payload in
+    let stand = c.in_ok-add.ensures.stand packets packet reads.stand c.requires.header payload in
     c.read_units.ensures.read (packets ++ packet ∷ []) (length (joined packets))
     (reads_there (packets ++ packet ∷ []) (length (joined packets)) walk.refused (record walk { places = c.add.new.self }) none
     (reads_longer packets packet walk.places c.add.new.self walk.cutter walk.units stand reads)) few (payload_left packets packet ∙ sym payload)
