@@ -77,7 +77,7 @@ use Rattle.program_reader.specs.Programs.{HasUnits, IsDemuxedRefused, video_byte
 use Rattle.program_reader.specs.Sizes.{AreSizedSoFar, AreUnitSizes}
 use Rattle.program_reader.specs.TimesWalk.{HasPassed}
 use Rattle.program_reader.specs.Units.{AreInOrder, AreKept, IsBroken, IsNext, IsUnitRefused, IsUnitsFault, last_of, state_behind, unit_bytes}
-use Rattle.program_reader.specs.VideoWalk.{AreFew, AreRefused, HasUnitFault, HavePassed, IsFaultBefore, IsVideoWalked, ReadsTo, Stand, end_of}
+use Rattle.program_reader.specs.VideoWalk.{AreAll, AreFew, AreRefused, HasUnitFault, HavePassed, IsFaultBefore, IsVideoWalked, ReadsTo, Stand, end_of}
 use Rattle.program_reader.specs.Private.PassedVideo.{IsKeptAs, timed_as, IsReadAs, IsVideoOf}
 use Rattle.program_reader.specs.Private.SizedUnits.{IsSizedBehind, IsSizedFound}
 use Rattle.program_reader.specs.Private.TakenPackets.{IsFaultOf}
@@ -353,6 +353,9 @@ ends_none packets all none empty = record {
   taken_are = ap (taken true) empty ∙ sym none;
   dropped_are = sym (ap (packets_dropped true) empty);
 }
+
+pub known_last : (packets all : List PesUnit) (given : Option PesUnit) (last : PesUnit) → given ≡ Some last → AreAll packets given all → all ≡ packets ++ last ∷ []
+known_last packets all given last is are = subst (λ (some : Option PesUnit). AreAll packets some all) is are
 
 -- the header of a last packet tells whether it is dropped
 pub ends_some : (packets all : List PesUnit) (last : PesUnit) (found : Option PesHeader) (header : PesHeader) → All (IsWhole true) packets → all ≡ packets ++ last ∷ []

@@ -12,7 +12,7 @@ returns-in-Some-clause-video c packets demuxed has few sound taken dropped =
 pub read_last-requires : goal.read_last-requires
 read_last-requires c =
     let (packets, has, few) = c.requires.read in
-    (packets, reads_here packets (length (joined packets)) c.args.self.refused c.args.self c.in-None.is has, few)
+    record { read = (packets, reads_here packets (length (joined packets)) c.args.self.refused c.args.self c.in-None.is has, few) }
 
 pub returns-in-None-clause-video : goal.returns-in-None-clause-video
 returns-in-None-clause-video c packets demuxed has few sound taken dropped =
