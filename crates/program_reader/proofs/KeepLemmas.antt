@@ -71,6 +71,7 @@ use Rattle.program_reader.specs.declared.timed_picture.Role.{Role}
 use Rattle.program_reader.specs.declared.timed_picture.Role.TheVariants.{Frame, FirstField, SecondField}
 use Rattle.program_reader.specs.declared.timed_picture.TimedPicture.{TimedPicture}
 use Rattle.program_reader.specs.declared.unit_picture.TimedUnit.{TimedUnit}
+use Rattle.program_reader.specs.KeptUnits.{row_of, AreRows, first_of}
 use Rattle.program_reader.specs.Packets.{pes_payload_of, joined, placed_from}
 use Rattle.es_units.specs.Pictures.{first_picture}
 use Rattle.program_reader.specs.PictureTimes.{is_first_picture_in, no_times, times_at, times_of_unit}
@@ -79,7 +80,7 @@ use Rattle.program_reader.specs.Units.{unit_bytes, state_behind, ticks_behind, I
 use Rattle.program_reader.specs.Units.{AreInOrder, last_of, is_none_left, IsUnitsFault, AreKept}
 use Rattle.program_reader.specs.Private.AudioStarts.{IsNear}
 use Rattle.program_reader.specs.Private.Dues.{IsTime}
-use Rattle.program_reader.specs.Private.KeptUnits.{IsVideo, Fits, row_of, AreRows, first_of, far, IsPictureNear, Keep, AreUnitsKept}
+use Rattle.program_reader.specs.Private.KeptUnits.{IsVideo, Fits, far, IsPictureNear, Keep, AreUnitsKept}
 use Rattle.program_reader.specs.Private.StampedPictures.{stamp_at, stamps_of, times_of_stamp, AreRising, TellTimes, IsCounted}
 use Rattle.program_reader.specs.Private.TimedPictures.{IsPossible, IsFound, IsShown, LastTells}
 use Rattle.program_reader.proofs.ReferenceLemmas.{before_is, before_shown, behind_is, behind_shown}
@@ -307,6 +308,23 @@ pub first_near : (value : Option ℕ) (stated ticks : ℤ) → IsInRange value �
 first_near None stated ticks range timed = absurd timed
 first_near (Some v) stated ticks range timed = zero_near v stated range timed.0
 
+-- ---- one more unit
+
+-- the times of its picture are near, behind one more stated time or none
+pub near_next : (es : List ℕ) (packets : List PlacedPacket) (earlier : List TimedPicture) (unit : ℕ × ℕ) (picture : TimedPicture) (count next i : ℕ) → IsInRange (decoding_time picture.times) →
+    IfSome (nearest earlier) IsPossible → IfSome (nearest earlier) (IsPictureNear count i) → IsStep count next (decoding_time picture.times) → LastTells earlier →
+    IsNext es packets earlier unit picture → IsPictureNear next (i + 1) picture
+near_next es packets earlier unit picture count next_count i range possible near stated tells next =
+    let timed = timed_near (nearest earlier) (decoding_time picture.times) picture.stated picture.ticks count next_count i range near stated next.timed in
+    let shown = shown_next es packets earlier unit picture possible tells next in record {
+      state = state_next es packets earlier unit picture possible next;
+      stated = timed.0;
+      least = timed.1.0;
+      most = timed.1.1;
+      shown_before = shown.0;
+      shown_behind = shown.1;
+    }
+
 -- ---- a loop over the units
 
 -- units before a place are kept, and their times are looked up
@@ -425,12 +443,13 @@ kept_more es packets cuts i unit left behind old new times picture lt few is ran
     let last_same = earlier_last es packets cuts i left old so_far in
     let own_timed : IsTimed old.last (decoding_time picture.times) picture.stated picture.ticks =
     subst (λ (b : Option TimedPicture). IsTimed b (decoding_time picture.times) picture.stated picture.ticks) last_same next.timed in
-    let timed = timed_near old.last (decoding_time picture.times) picture.stated picture.ticks so_far.count step.0 i range so_far.near stated own_timed in
     let possible : IfSome (nearest earlier) IsPossible =
     subst (λ (b : Option TimedPicture). IfSome b IsPossible) (sym last_same) (possible_before es packets cuts i left old lt few so_far) in
-    let shown = shown_next es packets earlier unit picture possible (earlier_tells es packets cuts i left old so_far) next in
+    let near : IsPictureNear step.0 (i + 1) picture =
+    near_next es packets earlier unit picture so_far.count step.0 i range possible (subst (λ (b : Option TimedPicture). IfSome b (IsPictureNear so_far.count i)) (sym last_same) so_far.near) stated
+    (earlier_tells es packets cuts i left old so_far) next in
     let next_few : step.0 ≤ 4000000 = omega (arith, step.2) in
-    let tick : IsTickUnit (row_of unit picture) = (let far = far_tick picture.ticks step.0 (i + 1) next_few (omega (arith, lt, few)) timed.1 in record { least = far.0; most = far.1 }) in
+    let tick : IsTickUnit (row_of unit picture) = (let far = far_tick picture.ticks step.0 (i + 1) next_few (omega (arith, lt, few)) (near.least, near.most) in record { least = far.0; most = far.1 }) in
     let more : take (i + 1) cuts ≡ take i cuts ++ unit ∷ [] = take_more cuts i (0, 0) lt ∙ ap (λ (u : ℕ × ℕ). take i cuts ++ u ∷ []) (sym is) in
     let in_order : AreInOrder es packets [] (take i cuts ++ unit ∷ []) (so_far.pictures ++ picture ∷ []) =
     order_push es packets [] (take i cuts) so_far.pictures unit picture keep.in_order next in
@@ -453,15 +472,7 @@ kept_more es packets cuts i unit left behind old new times picture lt few is ran
       tells = tells;
       count = step.0;
       counted = step.2;
-      near = subst (λ (f : Option TimedPicture). IfSome f (IsPictureNear step.0 (i + 1))) (sym last)
-          (record {
-            state = state_next es packets earlier unit picture possible next;
-            stated = timed.0;
-            least = timed.1.0;
-            most = timed.1.1;
-            shown_before = shown.0;
-            shown_behind = shown.1;
-          });
+      near = subst (λ (f : Option TimedPicture). IfSome f (IsPictureNear step.0 (i + 1))) (sym last) near;
     }
   where
     first_step : (f l : Option TimedPicture) (picture : TimedPicture) (pictures : List TimedPicture) → f ≡ first_of pictures → l ≡ last_of pictures →
@@ -557,7 +568,7 @@ pub video_ranges : (video : TakenPackets) → IsVideo video → All (λ packet. 
 video_ranges video is = subst (λ (ps : List PlacedPacket). All (λ packet. IsInRange (decoding_time packet.header.times)) ps) (sym is.holds.placed) (placed_times 0 is.packets)
 
 -- a stamp for each packet at most
-stamps_few : (es : List ℕ) (packets : List PlacedPacket) → length (stamps_of es packets) ≤ length packets
+pub stamps_few : (es : List ℕ) (packets : List PlacedPacket) → length (stamps_of es packets) ≤ length packets
 stamps_few es [] = omega arith
 stamps_few es (p ∷ ps) = by_first (first_picture es p.from p.end) (stamps_few es ps)
   where

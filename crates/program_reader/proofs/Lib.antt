@@ -11,12 +11,15 @@ pub mod OnePicture
 pub mod OneProgram
 pub mod OneUnits
 pub mod PieceLemmas
+pub mod PassedLemmas
 pub mod PlaceLemmas
 pub mod ProgramLemmas
 pub mod ReferenceLemmas
 pub mod StartLemmas
+pub mod StatedTimes
 pub mod StreamLemmas
 pub mod StreamsLemmas
+pub mod SameTimes
 pub mod SizedLemmas
 pub mod SizeLemmas
 pub mod SourceLemmas
@@ -25,6 +28,8 @@ pub mod TakenLemmas
 pub mod TimesWalked
 pub mod UnitLemmas
 pub mod TimeRange
+pub mod WalkEnds
+pub mod WalkLemmas
 mod CarryExamples
 mod Examples
 mod FormExamples

@@ -75,13 +75,14 @@ use Rattle.program_reader.specs.declared.program_fault.ProgramFault.TheVariants.
 use Rattle.program_reader.specs.declared.program_fault.SourceKind.TheVariants as kinds
 use Rattle.program_reader.specs.declared.timed_picture.TimedPicture.{TimedPicture}
 use Rattle.program_reader.specs.declared.video_stream.ReadVideo.{ReadVideo}
+use Rattle.program_reader.specs.KeptUnits.{AreRows, first_of}
 use Rattle.program_reader.specs.Audio.{IsAudioFault, IsDue, AreAudioSources}
 use Rattle.program_reader.specs.Packets.{IsPacketFault, taken, packets_dropped, joined, placed_from}
 use Rattle.program_reader.specs.Programs.{HasFewPackets, video_bytes, video_packets, HasUnits, HasNoSequence, all_times, IsEarliest, IsBase, AreUnitSources, IsProgram, all_packets_dropped, IsTakenOut, IsDemuxedRefused, IsProgramRefused}
 use Rattle.program_reader.specs.Units.{AreInOrder, AreKept, all, but_last, last_of, IsBroken, IsUnitsFault}
 use Rattle.program_reader.specs.Private.AudioStarts.{IsNear, AreStreamsRead}
 use Rattle.program_reader.specs.Private.Dues.{IsTime, IsTimeFrom, Lowers, AreDueUnits}
-use Rattle.program_reader.specs.Private.KeptUnits.{IsVideo, AreRows, first_of, AreUnitsKept}
+use Rattle.program_reader.specs.Private.KeptUnits.{IsVideo, AreUnitsKept}
 use Rattle.program_reader.specs.Private.Sources.{IsVideoRead, AreStreamsFrom, frame_times, read_times}
 use Rattle.program_reader.specs.Private.TakenPackets.{AreTaken}
 use Rattle.program_reader.proofs.DueLemmas.{lowers_both}
@@ -292,15 +293,15 @@ some_cut es units is none = by_first (first_sequence es) is
         let same : (let u : Units = record { dropped = min (cuts_up_to es first) (2 ^ 32 - 1); cuts = spans first (cuts_behind es first) (length es) } in u) ≡ units = cc in
         no_spans first (cuts_behind es first) (length es) (ap (λ (u : Units). u.cuts) same ∙ none)
 
-first_some : (pictures : List TimedPicture) (first : TimedPicture) → first_of pictures ≡ Some first → (later : List TimedPicture) × (pictures ≡ first ∷ later)
+pub first_some : (pictures : List TimedPicture) (first : TimedPicture) → first_of pictures ≡ Some first → (later : List TimedPicture) × (pictures ≡ first ∷ later)
 first_some [] first is = absurd cc
 first_some (p ∷ ps) first is = (ps, (let same : p ≡ first = cc in ap (λ (q : TimedPicture). q ∷ ps) same))
 
-first_none : (pictures : List TimedPicture) → first_of pictures ≡ None → pictures ≡ []
+pub first_none : (pictures : List TimedPicture) → first_of pictures ≡ None → pictures ≡ []
 first_none [] is = refl
 first_none (p ∷ ps) is = absurd cc
 
-none_kept : (es : List ℕ) (packets : List PlacedPacket) (earlier : List TimedPicture) (units : List (ℕ × ℕ)) (pictures : List TimedPicture) → AreInOrder es packets earlier units pictures →
+pub none_kept : (es : List ℕ) (packets : List PlacedPacket) (earlier : List TimedPicture) (units : List (ℕ × ℕ)) (pictures : List TimedPicture) → AreInOrder es packets earlier units pictures →
     pictures ≡ [] → units ≡ []
 none_kept es packets earlier [] pictures are none = refl
 none_kept es packets earlier (u ∷ us) [] are none = absurd are
@@ -338,7 +339,7 @@ video_read demuxed held units kept first dropped are units_are is first_is dropp
       ticks = keep.ticks;
     }
 
-nothing_kept : (demuxed : Demuxed) (units : Units) (kept : List (ℕ × ℕ)) (pictures : List TimedPicture) (dropped : ℕ) → HasUnits demuxed units → kept ≡ [] → pictures ≡ [] →
+pub nothing_kept : (demuxed : Demuxed) (units : Units) (kept : List (ℕ × ℕ)) (pictures : List TimedPicture) (dropped : ℕ) → HasUnits demuxed units → kept ≡ [] → pictures ≡ [] →
     AreKept (video_bytes demuxed) (video_packets demuxed) units.cuts kept pictures dropped → HasNoSequence demuxed
 nothing_kept demuxed units kept pictures dropped has none no_pictures (all same in_order none_dropped) = absurd (some_cut (video_bytes demuxed) units has.units_are (same ∙ none))
 nothing_kept demuxed units kept pictures dropped has none no_pictures (but_last last refusal at split in_order broken one) =

@@ -51,12 +51,12 @@ use Rattle.program_reader.specs.declared.timed_picture.TimedPicture.{TimedPictur
 use Rattle.program_reader.specs.declared.unit_picture.TimedUnit.{TimedUnit}
 use Rattle.program_reader.specs.declared.unit_sizes.UnitSizes.{UnitSizes}
 use Rattle.program_reader.specs.declared.video_stream.ReadVideo.{ReadVideo}
-use Rattle.program_reader.specs.Sizes.{AreProgramSizes, AreUnitSizes, stands_at}
+use Rattle.program_reader.specs.KeptUnits.{row_of, kept_at}
+use Rattle.program_reader.specs.Sizes.{AreSizedSoFar, AreProgramSizes, AreUnitSizes, stands_at}
 use Rattle.program_reader.specs.Intervals.{nearest}
 use Rattle.program_reader.specs.Units.{IsNext, state_behind, unit_bytes}
 use Rattle.program_reader.specs.Private.Dues.{AreDueUnits}
-use Rattle.program_reader.specs.Private.KeptUnits.{row_of}
-use Rattle.program_reader.specs.Private.SizedUnits.{AreSizedSoFar, IsSizedBehind, IsSizedFound, kept_at}
+use Rattle.program_reader.specs.Private.SizedUnits.{IsSizedBehind, IsSizedFound}
 use Rattle.program_reader.specs.Private.TimedPictures.{broken_answer}
 use Rattle.program_reader.specs.declared.limits.TheConstants.{UNIT_BYTES_MOST}
 

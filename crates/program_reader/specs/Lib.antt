@@ -9,4 +9,6 @@ pub mod AudioTypes
 pub mod Programs
 pub mod Carry
 pub mod Sizes
+pub mod KeptUnits
+pub mod VideoWalk
 pub mod Private

@@ -3,6 +3,7 @@ pub mod Dues
 pub mod FrameWalk
 pub mod Frames
 pub mod KeptUnits
+pub mod PassedVideo
 pub mod Pieces
 pub mod SizedUnits
 pub mod Sources

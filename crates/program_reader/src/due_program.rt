@@ -2,10 +2,10 @@
 ghost use Rattle.std.specs.Prelude.{◌≡◌, ◌+◌, ◌≤◌, ◌<◌, ◌^◌, List, length, map, All, IfOk};
 ghost use Rattle.std.specs.List.{sum_by};
 ghost use Rattle.ts_demux.specs.declared.demuxed.PesUnit.{PesUnit};
+ghost use Rattle.program_reader.specs.KeptUnits.{kept_at};
 ghost use Rattle.program_reader.specs.Programs.{IsProgram, all_packets_dropped};
 ghost use Rattle.program_reader.specs.Sizes.{stands_at};
 ghost use Rattle.program_reader.specs.Private.AudioStarts.{AreStreamsRead};
-ghost use Rattle.program_reader.specs.Private.SizedUnits.{kept_at};
 ghost use Rattle.program_reader.specs.Private.Sources.{IsVideoRead, with_video};
 
 use crate::audio_sources::audio_sources;

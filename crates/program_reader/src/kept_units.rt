@@ -1,9 +1,9 @@
 //! The units of a video that are kept, with their times.
 ghost use Rattle.std.specs.Prelude.{◌≡◌, ◌⊎◌, ◌+◌, ◌≤◌, ◌<◌, ◌^◌, ◌++◌, ◌∷◌, [], All, length, Some, None, true, map, IfOk, MatchResult, OnOk, unwrap_or};
 ghost use Rattle.program_reader.specs.declared.program_fault.ProgramFault.TheVariants.{OutOfMemory};
+ghost use Rattle.program_reader.specs.KeptUnits.{row_of, kept_at};
 ghost use Rattle.program_reader.specs.Units.{IsUnitsFault};
-ghost use Rattle.program_reader.specs.Private.KeptUnits.{IsVideo, Fits, row_of, AreUnitsKept};
-ghost use Rattle.program_reader.specs.Private.SizedUnits.{kept_at};
+ghost use Rattle.program_reader.specs.Private.KeptUnits.{IsVideo, Fits, AreUnitsKept};
 ghost use Rattle.program_reader.specs.Sizes.{AreUnitSizes};
 
 use crate::limits::FILE_BYTES_MOST;
@@ -79,7 +79,7 @@ pub fn keep_units(
         };
         match unit_picture(
             alloc,
-            es,
+            &es[begin as usize..end as usize],
             &unit,
             kept.last.as_ref(),
             wanted,
@@ -99,7 +99,7 @@ pub fn keep_units(
 
 impl KeptUnits {
     /// None are kept.
-    fn new(alloc: Global) -> Self
+    pub fn new(alloc: Global) -> Self
         ensures units { result.units.items ≡ [] }
         ensures first { result.first ≡ None }
         ensures last { result.last ≡ None }
@@ -114,7 +114,7 @@ impl KeptUnits {
     }
 
     /// Keeps one more unit.
-    fn add(&mut self, unit: &TimedUnit, picture: &TimedPicture) -> Result<(), AllocError>
+    pub fn add(&mut self, unit: &TimedUnit, picture: &TimedPicture) -> Result<(), AllocError>
         ensures units { OnOk result (self.new.units.items ≡ self.old.units.items ++ row_of (unit.now.begin, unit.now.end) picture.now ∷ []) }
         ensures first { OnOk result (self.new.first ≡ Some (unwrap_or self.old.first picture.now)) }
         ensures last { OnOk result (self.new.last ≡ Some picture.now) }

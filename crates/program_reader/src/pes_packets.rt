@@ -126,7 +126,7 @@ pub fn bytes_of(packets: &[PesUnit]) -> usize {
 }
 
 /// The bytes behind so many, or none where there are fewer.
-fn bytes_behind(bytes: &[u8], count: usize) -> &[u8]
+pub fn bytes_behind(bytes: &[u8], count: usize) -> &[u8]
     ensures { result.now ≡ drop count bytes.now }
 {
     if count <= bytes.len() {

@@ -1,5 +1,5 @@
 //! A unit as a coded picture behind the one before.
-ghost use Rattle.std.specs.Prelude.{◌≡◌, ◌≤◌, ◌<◌, ◌^◌, List, length, IfSome, IfOk, MatchResult};
+ghost use Rattle.std.specs.Prelude.{◌≡◌, ◌≤◌, ◌<◌, ◌^◌, ℕ, List, length, IfSome, IfOk, MatchResult};
 ghost use Rattle.std.specs.Option.{option_copied};
 ghost use Rattle.pes_units.specs.Times.{decoding_time};
 ghost use Rattle.program_reader.specs.declared.pes_packets.PlacedPacket.{PlacedPacket};
@@ -30,30 +30,28 @@ pub struct TimedUnit {
     pub is_last: bool,
 }
 
-/// The picture of a unit behind the one before, whose sizes are put behind the others where they are wanted. None is answered for a
-/// last unit that breaks a rule of headers or pictures. An error is the first of what refuses the unit.
+/// The picture of a unit with these bytes behind the one before, whose sizes are put behind the others where they are wanted. None is
+/// answered for a last unit that breaks a rule of headers or pictures. An error is the first of what refuses the unit.
 pub fn unit_picture(
     alloc: Global,
-    es: &[u8],
+    bytes: &[u8],
     unit: &TimedUnit,
     before: Option<&TimedPicture>,
     wanted: &SizesWanted<'_>,
     sizes: &mut Vec<UnitSizes>,
     ladder: &mut Ladder,
 ) -> Result<Option<TimedPicture>, ProgramFault>
-    requires size { length es.now < 2 ^ 41 }
+    requires size { length bytes.now ≤ 2 ^ 60 }
     requires order { unit.now.begin ≤ unit.now.end }
-    requires within { unit.now.end ≤ length es.now }
+    requires place { unit.now.begin < 2 ^ 41 }
     requires times { IfSome (decoding_time unit.now.times) (λ time. time < 2 ^ 33) }
     requires before { IfSome (option_copied before) IsPossible }
     requires coarser { length wanted.now.coarser.now < VERSIONS_MOST }
-    ensures found { (packets : List PlacedPacket) (earlier : List TimedPicture) → nearest earlier ≡ option_copied before.entry → LastTells earlier →
-        unit.now.times ≡ times_of_unit es.now packets (unit.now.begin, unit.now.end) →
-        MatchResult result (IsFound es.now packets earlier (option_copied before.entry) unit.now) (IsNotFound es.now packets (option_copied before.entry) unit.now) }
-    ensures sizes { IfOk result (IsSizedFound (state_behind (option_copied before.entry)) (unit_bytes es.now (unit.now.begin, unit.now.end)) wanted.now.coarser.now
-        wanted.now.are_wanted sizes.old.items sizes.new.items) }
+    ensures found { (es : List ℕ) (packets : List PlacedPacket) (earlier : List TimedPicture) → bytes.now ≡ unit_bytes es (unit.now.begin, unit.now.end) →
+        nearest earlier ≡ option_copied before.entry → LastTells earlier → unit.now.times ≡ times_of_unit es packets (unit.now.begin, unit.now.end) →
+        MatchResult result (IsFound es packets earlier (option_copied before.entry) unit.now) (IsNotFound es packets (option_copied before.entry) unit.now) }
+    ensures sizes { IfOk result (IsSizedFound (state_behind (option_copied before.entry)) bytes.now wanted.now.coarser.now wanted.now.are_wanted sizes.old.items sizes.new.items) }
 {
-    let bytes = &es[unit.begin as usize..unit.end as usize];
     let headers = match check_unit(alloc, bytes, state_behind(before), wanted, sizes, ladder) {
         Ok(headers) => headers,
         Err(fault) => return broken(unit, fault),

@@ -4,10 +4,10 @@ ghost use Rattle.std.specs.List.{sum_by};
 ghost use Rattle.ts_demux.specs.declared.demuxed.Demuxed.{Demuxed};
 ghost use Rattle.es_units.specs.Units.{cut_units};
 ghost use Rattle.program_reader.specs.declared.program_fault.ProgramFault.TheVariants.{OutOfMemory};
+ghost use Rattle.program_reader.specs.KeptUnits.{kept_at};
 ghost use Rattle.program_reader.specs.Programs.{IsDemuxedRefused};
 ghost use Rattle.program_reader.specs.Sizes.{AreUnitSizes};
 ghost use Rattle.program_reader.specs.Private.KeptUnits.{AreUnitsKept};
-ghost use Rattle.program_reader.specs.Private.SizedUnits.{kept_at};
 ghost use Rattle.program_reader.specs.Private.Sources.{IsVideoRead};
 ghost use Rattle.program_reader.specs.Private.TakenPackets.{AreTaken};
 

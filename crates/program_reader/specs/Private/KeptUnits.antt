@@ -1,13 +1,13 @@
 -- Units that are kept so far, and how far from 0 their times may be.
-use Rattle.std.specs.Prelude.{◌≡◌, ℕ, ◌+◌, ◌*◌, ◌^◌, ◌≤◌, List, [], ◌∷◌, length, All, Option, Some, None, IfSome, pos, neg_ℤ, ◌≤ℤ◌}
+use Rattle.std.specs.Prelude.{◌≡◌, ℕ, ◌+◌, ◌*◌, ◌^◌, ◌≤◌, List, [], ◌∷◌, length, All, IfSome, pos, neg_ℤ, ◌≤ℤ◌}
 use Rattle.ts_demux.specs.declared.demuxed.PesUnit.{PesUnit}
 use Rattle.picture_grammar.specs.Picture.{IsState}
 use Rattle.program_reader.specs.declared.limits.TheConstants.{FILE_BYTES_MOST, PES_PACKETS_MOST}
-use Rattle.program_reader.specs.declared.kept_units.KeptUnit.{KeptUnit}
 use Rattle.program_reader.specs.declared.kept_units.KeptUnits.{KeptUnits}
 use Rattle.program_reader.specs.declared.pes_packets.PlacedPacket.{PlacedPacket}
 use Rattle.program_reader.specs.declared.pes_packets.TakenPackets.{TakenPackets}
 use Rattle.program_reader.specs.declared.timed_picture.TimedPicture.{TimedPicture}
+use Rattle.program_reader.specs.KeptUnits.{AreRows, first_of}
 use Rattle.program_reader.specs.Units.{AreKept, AreInOrder, last_of}
 use Rattle.program_reader.specs.Private.AudioStarts.{IsNear}
 use Rattle.program_reader.specs.Private.Dues.{IsTime}
@@ -25,21 +25,6 @@ pub record IsVideo (held : TakenPackets) : Type 0 where
 abbrev pub Fits : ℕ → ℕ → List (ℕ × ℕ) → Type 0
 Fits size from [] = Unit {0}
 Fits size from (unit ∷ units) = (from ≤ unit.0) × (unit.0 ≤ unit.1) × (unit.1 ≤ size) × Fits size unit.1 units
-
--- what is kept of a unit and its picture
-abbrev pub row_of : ℕ × ℕ → TimedPicture → KeptUnit
-row_of unit picture = record { begin = unit.0; end = unit.1; times = picture.times; ticks = picture.ticks; kind = picture.coding.kind; role = picture.role }
-
--- of each one
-abbrev pub AreRows : List (ℕ × ℕ) → List TimedPicture → List KeptUnit → Type 0
-AreRows [] [] [] = Unit {0}
-AreRows (unit ∷ units) (picture ∷ pictures) (row ∷ rows) = (row ≡ row_of unit picture) × AreRows units pictures rows
-AreRows units pictures rows = ⊥
-
--- the first of some pictures, if there are any
-abbrev pub first_of : List TimedPicture → Option TimedPicture
-first_of [] = None
-first_of (picture ∷ _) = Some picture
 
 -- how far from 0 a time in ticks may be, behind so many stated times and so many units
 abbrev pub far : ℕ → ℕ → ℕ

@@ -9,10 +9,10 @@ use Rattle.program_reader.specs.declared.due_program.BesideVideo.{BesideVideo}
 use Rattle.program_reader.specs.declared.kept_units.KeptUnit.{KeptUnit}
 use Rattle.program_reader.specs.declared.timed_picture.TimedPicture.{TimedPicture}
 use Rattle.program_reader.specs.declared.video_stream.ReadVideo.{ReadVideo}
+use Rattle.program_reader.specs.KeptUnits.{AreRows}
 use Rattle.program_reader.specs.Programs.{HasPictures}
 use Rattle.program_reader.specs.Private.AudioStarts.{IsNear, IsStreamRead}
 use Rattle.program_reader.specs.Private.Dues.{IsTime, IsTimeFrom}
-use Rattle.program_reader.specs.Private.KeptUnits.{AreRows}
 use Rattle.program_reader.specs.Private.TakenPackets.{AreTaken}
 
 -- what is taken out of a file, by its parts

@@ -1,10 +1,10 @@
 use Rattle.std.proofs.Common.{ℕ, ◌+◌, List, All, map, ap, ◌∙◌, sym, subst, arith}
 use Rattle.ts_demux.specs.declared.demuxed.AudioStream.{AudioStream}
 use Rattle.program_reader.specs.declared.kept_units.KeptUnit.{KeptUnit}
+use Rattle.program_reader.specs.KeptUnits.{kept_at}
 use Rattle.program_reader.specs.Private.Dues.{IsTimeFrom}
 use Rattle.program_reader.specs.Private.Sources.{AreStreamsFrom, with_video}
 use Rattle.program_reader.proofs.ProgramLemmas.{IsClockOf, clock_of, program_is, all_dropped, streams_dropped, video_dropped}
-use Rattle.program_reader.specs.Private.SizedUnits.{kept_at}
 use Rattle.program_reader.proofs.SizedLemmas.{due_places}
 use Rattle.program_reader.proofs.due_program.due_program.Goals as goal
 

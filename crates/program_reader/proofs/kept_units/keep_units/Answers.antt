@@ -5,9 +5,9 @@ use Rattle.pes_units.specs.Times.{decoding_time}
 use Rattle.program_reader.specs.declared.timed_picture.TimedPicture.{TimedPicture}
 use Rattle.program_reader.specs.declared.unit_picture.TimedUnit.{TimedUnit}
 use Rattle.program_reader.specs.declared.unit_sizes.UnitSizes.{UnitSizes}
+use Rattle.program_reader.specs.KeptUnits.{kept_at}
 use Rattle.program_reader.specs.Sizes.{AreUnitSizes}
 use Rattle.program_reader.specs.Units.{state_behind, unit_bytes}
-use Rattle.program_reader.specs.Private.SizedUnits.{kept_at}
 use Rattle.program_reader.specs.Private.TimedPictures.{IsPossible}
 use Rattle.program_reader.proofs.TimeRange.{IsInRange}
 use Rattle.program_reader.proofs.KeepLemmas.{
@@ -66,11 +66,11 @@ unit_picture-requires-clause-order c =
     (next_unit c.args.video.now.payload.items c.args.video.now.packets.items c.args.cuts.now c.loop-at.at (get_or c.args.cuts.now c.loop-at.at (0, 0)) c.loop-at.left.now c.loop-at.kept
     c.loop-at-test.true refl c.loop-at.invariant.so_far).order
 
-pub unit_picture-requires-clause-within : goal.unit_picture-requires-clause-within
-unit_picture-requires-clause-within c =
+pub unit_picture-requires-clause-place : goal.unit_picture-requires-clause-place
+unit_picture-requires-clause-place c =
     let here = next_unit c.args.video.now.payload.items c.args.video.now.packets.items c.args.cuts.now c.loop-at.at (get_or c.args.cuts.now c.loop-at.at (0, 0)) c.loop-at.left.now c.loop-at.kept
     c.loop-at-test.true refl c.loop-at.invariant.so_far in
-    within_same c.as_slice-es.result.now c.args.video.now.payload.items (get_or c.args.cuts.now c.loop-at.at (0, 0)).1 c.as_slice-es.ensures.value here.within
+    omega (arith, here.order, here.within, c.requires.video.small)
 
 pub unit_picture-requires-clause-times : goal.unit_picture-requires-clause-times
 unit_picture-requires-clause-times c =
@@ -99,7 +99,7 @@ returns-in-Ok-None-clause-kept c =
     here.order c.unit_times-found.ensures.times c.unit_times-found.ensures.left in
     let given : TimedUnit = record { begin = unit.0; end = unit.1; times = c.unit_times-found.result.times; is_last = c.loop-at.at + 1 == length c.args.cuts.now } in
     let broken = found_none c.as_slice-es.result.now packets (all_earlier [] so_far.pictures) (option_copied c.as_ref.result) given c.in-Ok-None.field-0 c.in-Ok-None.field-0-is
-    (c.in-Ok-None.ensures.found packets (all_earlier [] so_far.pictures) (earlier_last es packets c.args.cuts.now c.loop-at.at c.loop-at.left.now c.loop-at.kept so_far ∙ sym c.as_ref.ensures.value)
+    (c.in-Ok-None.ensures.found c.as_slice-es.result.now packets (all_earlier [] so_far.pictures) refl (earlier_last es packets c.args.cuts.now c.loop-at.at c.loop-at.left.now c.loop-at.kept so_far ∙ sym c.as_ref.ensures.value)
     (earlier_tells es packets c.args.cuts.now c.loop-at.at c.loop-at.left.now c.loop-at.kept so_far) found.0) in
     kept_but_last es packets c.args.cuts.now c.loop-at.at unit c.loop-at.left.now c.loop-at.kept (record c.loop-at.kept { dropped = 1 }) broken.1 broken.2 _ c.loop-at-test.true refl refl
     broken.0 c.loop-at.invariant.so_far
@@ -117,7 +117,7 @@ returns-in-Err-clause-kept c =
     here.order c.unit_times-found.ensures.times c.unit_times-found.ensures.left in
     unit_refused es packets c.args.cuts.now c.loop-at.at unit c.loop-at.left.now c.loop-at.kept _ c.in-Err.fault c.loop-at-test.true refl refl c.loop-at.invariant.so_far
     (refused_same c.as_slice-es.result.now es packets (option_copied c.as_ref.result) c.loop-at.kept.last unit _ c.in-Err.fault c.as_slice-es.ensures.value c.as_ref.ensures.value
-    (c.in-Err.ensures.found packets (all_earlier [] so_far.pictures) (earlier_last es packets c.args.cuts.now c.loop-at.at c.loop-at.left.now c.loop-at.kept so_far ∙ sym c.as_ref.ensures.value)
+    (c.in-Err.ensures.found c.as_slice-es.result.now packets (all_earlier [] so_far.pictures) refl (earlier_last es packets c.args.cuts.now c.loop-at.at c.loop-at.left.now c.loop-at.kept so_far ∙ sym c.as_ref.ensures.value)
     (earlier_tells es packets c.args.cuts.now c.loop-at.at c.loop-at.left.now c.loop-at.kept so_far) found.0))
 
 pub loop-at-preserved : goal.loop-at-preserved
@@ -134,7 +134,7 @@ loop-at-preserved c =
     let earlier = all_earlier [] so_far.pictures in
     let next = next_same c.as_slice-es.result.now es packets earlier unit c.in-Ok-Some.picture c.as_slice-es.ensures.value
     (found_some c.as_slice-es.result.now packets earlier (option_copied c.as_ref.result) given c.in-Ok-Some.field-0 c.in-Ok-Some.picture c.in-Ok-Some.field-0-is
-    (c.in-Ok-Some.ensures.found packets earlier (earlier_last es packets c.args.cuts.now c.loop-at.at c.loop-at.left.now c.loop-at.kept so_far ∙ sym c.as_ref.ensures.value)
+    (c.in-Ok-Some.ensures.found c.as_slice-es.result.now packets earlier refl (earlier_last es packets c.args.cuts.now c.loop-at.at c.loop-at.left.now c.loop-at.kept so_far ∙ sym c.as_ref.ensures.value)
     (earlier_tells es packets c.args.cuts.now c.loop-at.at c.loop-at.left.now c.loop-at.kept so_far) found.0)) in
     let own = sized_found (state_behind (option_copied c.as_ref.result)) (unit_bytes c.as_slice-es.result.now unit) asked.coarser.now asked.are_wanted c.loop-at.sizes.items
     c.unit_picture.new.sizes.items c.in-Ok-Some.field-0 c.in-Ok-Some.picture c.in-Ok-Some.field-0-is c.in-Ok-Some.ensures.sizes in

@@ -1,5 +1,6 @@
 use Rattle.std.proofs.Common.{◌≡◌, true, map}
-use Rattle.program_reader.specs.Private.SizedUnits.{AreSizedSoFar, kept_at}
+use Rattle.program_reader.specs.KeptUnits.{kept_at}
+use Rattle.program_reader.specs.Sizes.{AreSizedSoFar}
 use Rattle.program_reader.specs.Units.{state_behind}
 use Rattle.program_reader.proofs.KeepLemmas.{KeptSoFar}
 use Rattle.program_reader.proofs.kept_units.keep_units.Given as goal
