@@ -1,4 +1,4 @@
-use Rattle.std.proofs.Common.{◌+◌, ◌==◌, List, [], ◌∙◌, None, map, Option, length, get_or, IfSome, refl, sym, subst}
+use Rattle.std.proofs.Common.{◌+◌, ◌==◌, List, [], ◌∙◌, None, map, Option, length, get_or, IfSome, refl, sym, subst, arith}
 use Rattle.std.specs.Option.{option_copied}
 use Rattle.pes_units.specs.declared.times.Times.{Times}
 use Rattle.pes_units.specs.Times.{decoding_time}

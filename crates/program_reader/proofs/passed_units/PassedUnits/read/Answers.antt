@@ -1,4 +1,4 @@
-use Rattle.std.proofs.Common.{◌≡◌, List, ℕ, sym, subst, ◌∙◌, arith}
+use Rattle.std.proofs.Common.{sym, subst}
 use Rattle.program_reader.specs.declared.times_walk.TimesWalk.{TimesWalk}
 use Rattle.program_reader.specs.TimesWalk.{HasPassed}
 use Rattle.program_reader.proofs.PassedLemmas.{looked_range, looked_up, passed_slices, slices_passed}

@@ -1,4 +1,4 @@
-use Rattle.std.proofs.Common.{◌≡◌, ◌+◌, ℕ, length, refl, ap}
+use Rattle.std.proofs.Common.{◌+◌, ℕ, length, refl, ap}
 use Rattle.program_reader.proofs.WalkLemmas.{stand_more}
 use Rattle.program_reader.proofs.video_places.VideoPlaces.add.Goals as goal
 

@@ -1,4 +1,4 @@
-use Rattle.std.proofs.Common.{◌≡◌, ◌+◌, ◌++◌, ◌∙◌, List, ℕ, length, refl, sym, subst, take, ap, arith}
+use Rattle.std.proofs.Common.{◌++◌, ◌∙◌, List, ℕ, refl, sym, subst, take, arith}
 use Rattle.std.proofs.lemmas.List.{append-nil, take_all}
 use Rattle.es_units.specs.PictureFinder.{HasFound}
 use Rattle.program_reader.proofs.WalkLemmas.{found_further}

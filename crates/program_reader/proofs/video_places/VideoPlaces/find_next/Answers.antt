@@ -1,4 +1,4 @@
-use Rattle.std.proofs.Common.{◌≡◌, ◌++◌, ◌∙◌, List, ℕ, [], sym, ap, subst, take}
+use Rattle.std.proofs.Common.{◌++◌, ◌∙◌, List, ℕ, sym, ap, subst, take}
 use Rattle.std.proofs.lemmas.List.{append-nil}
 use Rattle.es_units.specs.PictureFinder.{HasFound}
 use Rattle.program_reader.proofs.video_places.VideoPlaces.find_next.Goals as goal

@@ -1,4 +1,4 @@
-use Rattle.std.proofs.Common.{◌≡◌, ◌∷◌, ◌++◌, [], List, None, IfOk, map, subst, sym, ◌∙◌, ap}
+use Rattle.std.proofs.Common.{◌∷◌, ◌++◌, [], List, None, IfOk, map, subst, sym, ◌∙◌, ap}
 use Rattle.std.specs.Option.{option_copied}
 use Rattle.ts_demux.specs.declared.demuxed.PesUnit.{PesUnit}
 use Rattle.program_reader.specs.declared.unit_sizes.SizesWanted.{SizesWanted}

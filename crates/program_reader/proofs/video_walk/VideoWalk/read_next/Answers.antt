@@ -1,4 +1,4 @@
-use Rattle.std.proofs.Common.{◌≡◌, ◌+◌, ℕ, List, Some, Err, ap, sym, subst, ◌∙◌, arith, refl}
+use Rattle.std.proofs.Common.{◌+◌, Err, ap, sym, ◌∙◌, arith}
 use Rattle.program_reader.specs.declared.program_fault.ProgramFault.{ProgramFault}
 use Rattle.program_reader.proofs.WalkLemmas.{bytes_short, follows, passed_here, possible_here, push_fits, reads_found, reads_here, reads_quiet, reads_refused, reads_there}
 use Rattle.program_reader.proofs.video_walk.VideoWalk.read_next.Goals as goal
