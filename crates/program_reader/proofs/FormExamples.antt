@@ -3,7 +3,6 @@ use Rattle.std.proofs.Common.{◌≡◌, ◌≢◌, ℕ, List, [], ◌∷◌, re
 use Rattle.program_stream.specs.declared.split_fault.SplitFault.TheVariants.{NoVideo}
 use Rattle.program_stream.proofs.Examples.{pack, end_code, two_elements, two_elements-are, two_elements-no_video}
 use Rattle.job_report.specs.declared.job.Form.TheVariants.{Ps}
-use Rattle.program_reader.specs.declared.program_fault.ProgramFault.{ProgramFault}
 use Rattle.program_reader.specs.declared.program_fault.ProgramFault.TheVariants.{Refused, OutOfMemory}
 use Rattle.program_reader.specs.declared.program_fault.SourceKind.{SourceKind}
 use Rattle.program_reader.specs.declared.program_fault.SourceKind.TheVariants as kinds

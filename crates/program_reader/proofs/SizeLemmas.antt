@@ -12,7 +12,7 @@ use Rattle.psi_tables.specs.declared.stream.Stream.{Stream}
 use Rattle.ts_demux.specs.declared.demuxed.AudioStream.{AudioStream}
 use Rattle.ts_demux.specs.declared.demuxed.Demuxed.{Demuxed}
 use Rattle.ts_demux.specs.declared.demuxed.PesUnit.{PesUnit}
-use Rattle.ts_demux.specs.Demux.{IsDemuxed, pes_packets_on}
+use Rattle.ts_demux.specs.Demux.{pes_packets_on}
 use Rattle.program_stream.specs.Split.{IsSplit}
 use Rattle.job_report.specs.declared.job.Form.{Form}
 use Rattle.program_reader.specs.Programs.{StandIn, in_packets, in_elements}

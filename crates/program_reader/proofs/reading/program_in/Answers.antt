@@ -34,3 +34,11 @@ returns-then-not-has_few_packets-clause-program c =
     let is : IsTakenOut c.args.form c.args.file.now c.args.number c.args.drop.now (typed c.args.form c.in-Ok.found.demuxed) =
     record { found = c.in-Ok.found.demuxed; cut = c.in-Ok.found.cut; stand = c.in-Ok.ensures; typed_is = refl } in
     IsProgramRefused.many_packets (typed c.args.form c.in-Ok.found.demuxed) c.if-file-gt-FILE_BYTES_MOST.false is (is-not c.has_few_packets.result _ c.has_few_packets.ensures fails) refl
+
+pub program_of-requires-clause-video_small : goal.program_of-requires-clause-video_small
+program_of-requires-clause-video_small c =
+    c.stream_sizes.ensures.video_small c.args.form c.args.file.now c.args.number c.args.drop.now c.in-Ok.found.demuxed c.in-Ok.found.cut c.if-file-gt-FILE_BYTES_MOST.false c.in-Ok.ensures
+
+pub program_of-requires-clause-audios_small : goal.program_of-requires-clause-audios_small
+program_of-requires-clause-audios_small c = λ k d lt.
+    c.stream_sizes.ensures.audios_small c.args.form c.args.file.now c.args.number c.args.drop.now c.in-Ok.found.demuxed c.in-Ok.found.cut c.if-file-gt-FILE_BYTES_MOST.false c.in-Ok.ensures k d lt
