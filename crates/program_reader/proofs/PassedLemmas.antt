@@ -1,64 +1,21 @@
 -- Units of a video that have passed: one more behind those that are kept, whatever packets follow.
-use Rattle.std.proofs.Common.{
-  ◌≡◌,
-  ◌⊎◌,
-  ℕ,
-  ◌+◌,
-  ◌-◌,
-  ◌<◌,
-  ◌≤◌,
-  Bool,
-  true,
-  false,
-  List,
-  [],
-  ◌∷◌,
-  ◌++◌,
-  length,
-  take,
-  drop,
-  map,
-  slice_range,
-  All,
-  Option,
-  Some,
-  None,
-  IfSome,
-  unwrap_or,
-  Result,
-  Ok,
-  Err,
-  MatchResult,
-  refl,
-  sym,
-  ap,
-  ◌∙◌,
-  subst,
-  inl,
-  inr,
-  arith,
-  min,
-  ◌^◌,
-}
+use Rattle.std.proofs.Common.{◌≡◌, ◌⊎◌, ℕ, ◌+◌, ◌-◌, ◌<◌, ◌≤◌, Bool, true, false, List, [], ◌∷◌, ◌++◌, length, map, All, Option, Some, None, IfSome, unwrap_or, Result, Ok, Err, MatchResult, refl, sym, ap, ◌∙◌, subst, inl, inr, arith, min, ◌^◌}
 use Rattle.std.specs.List.{last_or}
 use Rattle.std.specs.Option.{option_map}
-use Rattle.std.proofs.Math.Seq.{drop-append_seam, take-append_seam}
-use Rattle.std.proofs.lemmas.List.{append-nil, append_assoc, length-append, length-drop, length-take, length-take-le, take-append-drop, take-append-le, take_all}
+use Rattle.std.proofs.lemmas.List.{append-nil, append_assoc, length-append, take-append-le}
 use Rattle.es_units.specs.declared.unit_cutter.CutUnit.{CutUnit}
 use Rattle.es_units.specs.declared.unit_cutter.UnitCutter.{UnitCutter}
 use Rattle.es_units.specs.declared.units.Units.{Units}
 use Rattle.es_units.specs.CutUpTo.{HasUnits}
-use Rattle.es_units.specs.PictureFinder.{HasFound, picture_places}
-use Rattle.es_units.specs.UnitCutter.{BeginWith, HasCut, ended_from, ended_of, front_of, most_kept, place_of}
+use Rattle.es_units.specs.PictureFinder.{picture_places}
+use Rattle.es_units.specs.UnitCutter.{BeginWith, HasCut, ended_from, ended_of, place_of}
 use Rattle.es_units.specs.Units.{first_sequence, cuts_up_to, cuts_behind, cut_units}
-use Rattle.es_units.proofs.CutterKeeps.{take_sum}
 use Rattle.list_types.specs.Spans.{spans}
 use Rattle.pes_units.specs.declared.times.Times.{Times}
 use Rattle.pes_units.specs.Times.{decoding_time}
 use Rattle.picture_grammar.specs.Refusal.{Refusal}
 use Rattle.ts_demux.specs.declared.demuxed.PesUnit.{PesUnit}
 use Rattle.program_reader.specs.declared.kept_units.KeptUnit.{KeptUnit}
-use Rattle.program_reader.specs.declared.kept_units.KeptUnits.{KeptUnits}
 use Rattle.program_reader.specs.declared.passed_units.PassedUnits.{PassedUnits}
 use Rattle.program_reader.specs.declared.pes_packets.PlacedPacket.{PlacedPacket}
 use Rattle.program_reader.specs.declared.program_fault.ProgramFault.{ProgramFault}
@@ -66,16 +23,15 @@ use Rattle.program_reader.specs.declared.program_fault.ProgramFault.TheVariants.
 use Rattle.program_reader.specs.declared.timed_picture.TimedPicture.{TimedPicture}
 use Rattle.program_reader.specs.declared.times_walk.TimesWalk.{TimesWalk}
 use Rattle.program_reader.specs.declared.unit_sizes.SizesWanted.{SizesWanted}
-use Rattle.program_reader.specs.declared.unit_sizes.UnitSizes.{UnitSizes}
 use Rattle.program_reader.specs.declared.video_places.VideoPlaces.{VideoPlaces}
-use Rattle.program_reader.specs.KeptUnits.{AreRows, first_of, row_of, kept_at}
+use Rattle.program_reader.specs.KeptUnits.{AreRows, row_of, kept_at}
 use Rattle.program_reader.specs.Sizes.{AreSizedSoFar}
 use Rattle.program_reader.specs.Intervals.{nearest}
 use Rattle.program_reader.specs.Packets.{joined, placed_from}
 use Rattle.program_reader.specs.PictureTimes.{times_of_unit}
 use Rattle.program_reader.specs.TimesWalk.{HasPassed, Join}
 use Rattle.program_reader.specs.Units.{AreInOrder, IsBroken, IsNext, IsUnitRefused, is_none_left, last_of, state_behind, unit_bytes}
-use Rattle.program_reader.specs.VideoWalk.{AreFew, AreRefused, HasUnitFault, HavePassed, Stand, end_of}
+use Rattle.program_reader.specs.VideoWalk.{AreFew, AreRefused, HavePassed, Stand, end_of}
 use Rattle.program_reader.specs.Private.KeptUnits.{Fits, IsPictureNear}
 use Rattle.program_reader.specs.Private.PassedVideo.{IsKeptAs, timed_as, IsReadAs}
 use Rattle.program_reader.specs.Private.SizedUnits.{IsSizedFound, IsSizedBehind}

@@ -4,14 +4,14 @@ use Rattle.std.specs.List.{find, range_with_len}
 use Rattle.std.specs.Option.{option_map_or}
 use Rattle.std.proofs.lemmas.Bool.{cases_lt, ne_eqb}
 use Rattle.std.proofs.lemmas.Grind.{flat_map-append}
-use Rattle.std.proofs.lemmas.List.{append-nil, drop-append-le, length-append, length-drop, take-append-le}
+use Rattle.std.proofs.lemmas.List.{drop-append-le, length-append, length-drop, take-append-le}
 use Rattle.audio_frames.proofs.Places.{found_passes}
 use Rattle.es_units.specs.Pictures.{begins_picture, first_picture}
 use Rattle.es_units.proofs.PicturesFound.{begins_same}
 use Rattle.ts_demux.specs.declared.demuxed.PesUnit.{PesUnit}
 use Rattle.program_reader.specs.declared.pes_packets.PlacedPacket.{PlacedPacket}
 use Rattle.program_reader.specs.Packets.{pes_payload_of, joined, placed_from}
-use Rattle.program_reader.specs.PictureTimes.{is_first_picture_in, no_times, times_at, times_of_unit}
+use Rattle.program_reader.specs.PictureTimes.{is_first_picture_in, times_at, times_of_unit}
 use Rattle.program_reader.specs.TimesWalk.{Join}
 use Rattle.program_reader.specs.Units.{unit_bytes}
 use Rattle.program_reader.proofs.PlaceLemmas.{found_from}

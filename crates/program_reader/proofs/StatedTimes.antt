@@ -1,5 +1,5 @@
 -- How many times are stated of units, one behind the other.
-use Rattle.std.proofs.Common.{◌≡◌, ℕ, ◌+◌, ◌<◌, ◌≤◌, List, [], ◌∷◌, length, Option, Some, None, refl, sym, ap, ◌∙◌, subst, inl, inr, arith}
+use Rattle.std.proofs.Common.{◌≡◌, ℕ, ◌+◌, ◌≤◌, List, [], ◌∷◌, length, Option, Some, None, refl, sym, ap, subst, inl, inr, arith}
 use Rattle.std.proofs.lemmas.Bool.{cases_eq, cases_lt}
 use Rattle.pes_units.specs.declared.times.Times.{Times}
 use Rattle.pes_units.specs.Times.{decoding_time}
@@ -9,7 +9,7 @@ use Rattle.program_reader.specs.declared.pes_packets.PlacedPacket.{PlacedPacket}
 use Rattle.program_reader.specs.declared.picture_times.StampedPicture.{StampedPicture}
 use Rattle.program_reader.specs.Packets.{joined, placed_from}
 use Rattle.program_reader.specs.PictureTimes.{no_times, times_of_unit}
-use Rattle.program_reader.specs.Private.StampedPictures.{stamps_of, times_of_stamp, LeavesFrom, TellTimes, IsCounted}
+use Rattle.program_reader.specs.Private.StampedPictures.{stamps_of, LeavesFrom, TellTimes, IsCounted}
 use Rattle.program_reader.proofs.KeepLemmas.{IsStep, stamps_few}
 use Rattle.program_reader.proofs.StampLemmas.{LooksUp, leaves_here, leaves_more, leaves_none, look_here, look_none, look_past, stamps_rise, tells_later, tells_more, tells_none, tells_unit, times_stamped, within}
 

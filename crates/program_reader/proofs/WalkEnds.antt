@@ -1,47 +1,5 @@
 -- A walk over the PES packets of a video at its begin and at its end.
-use Rattle.std.proofs.Common.{
-  ◌≡◌,
-  ◌⊎◌,
-  ℕ,
-  ◌+◌,
-  ◌-◌,
-  ◌<◌,
-  ◌≤◌,
-  ◌^◌,
-  min,
-  Bool,
-  true,
-  false,
-  List,
-  [],
-  ◌∷◌,
-  ◌++◌,
-  length,
-  take,
-  drop,
-  map,
-  slice_range,
-  All,
-  Option,
-  Some,
-  None,
-  IfSome,
-  unwrap_or,
-  Result,
-  Ok,
-  Err,
-  IfOk,
-  MatchResult,
-  if◌then◌else◌,
-  refl,
-  sym,
-  ap,
-  ◌∙◌,
-  subst,
-  inl,
-  inr,
-  arith,
-}
+use Rattle.std.proofs.Common.{◌≡◌, ◌⊎◌, ℕ, ◌+◌, ◌-◌, ◌<◌, ◌≤◌, ◌^◌, min, Bool, true, false, List, [], ◌∷◌, ◌++◌, length, drop, map, All, Option, Some, None, IfSome, unwrap_or, Result, Ok, Err, IfOk, MatchResult, if◌then◌else◌, refl, sym, ap, ◌∙◌, subst, inl, inr, arith}
 use Rattle.std.proofs.lemmas.List.{append-nil, length-append, length-take, take_all}
 use Rattle.es_units.specs.declared.unit_cutter.CutUnit.{CutUnit}
 use Rattle.es_units.specs.declared.unit_cutter.UnitCutter.{UnitCutter}
@@ -49,10 +7,8 @@ use Rattle.es_units.specs.declared.units.Units.{Units}
 use Rattle.es_units.specs.UnitCutter.{BeginWith, HasCut, front_of, most_kept, place_of, units_dropped}
 use Rattle.es_units.specs.Units.{cut_units}
 use Rattle.pes_units.specs.declared.pes_header.PesHeader.{PesHeader}
-use Rattle.pes_units.specs.declared.times.Times.{Times}
 use Rattle.pes_units.specs.PesHeader.{pes_fields_of}
 use Rattle.pes_units.specs.PesPackets.{is_dropped, last_refusal, packet_refusal}
-use Rattle.pes_units.specs.Times.{decoding_time}
 use Rattle.picture_grammar.specs.Refusal.{Refusal}
 use Rattle.ts_demux.specs.declared.demuxed.Demuxed.{Demuxed}
 use Rattle.ts_demux.specs.declared.demuxed.PesUnit.{PesUnit}
@@ -66,7 +22,6 @@ use Rattle.program_reader.specs.declared.program_fault.ProgramFault.{ProgramFaul
 use Rattle.program_reader.specs.declared.program_fault.ProgramFault.TheVariants.{OutOfMemory, Refused}
 use Rattle.program_reader.specs.declared.program_fault.SourceKind.TheVariants as kinds
 use Rattle.program_reader.specs.declared.timed_picture.TimedPicture.{TimedPicture}
-use Rattle.program_reader.specs.declared.unit_sizes.SizesWanted.{SizesWanted}
 use Rattle.program_reader.specs.declared.unit_sizes.UnitSizes.{UnitSizes}
 use Rattle.program_reader.specs.declared.video_places.VideoPlaces.{VideoPlaces}
 use Rattle.program_reader.specs.declared.video_walk.WalkedVideo.{WalkedVideo}

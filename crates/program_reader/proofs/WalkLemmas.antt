@@ -1,52 +1,11 @@
 -- A walk over the PES packets of a video, one more packet or unit further, and at its end.
-use Rattle.std.proofs.Common.{
-  ◌≡◌,
-  ◌⊎◌,
-  ℕ,
-  ◌+◌,
-  ◌-◌,
-  ◌<◌,
-  ◌≤◌,
-  ◌^◌,
-  min,
-  Bool,
-  true,
-  false,
-  List,
-  [],
-  ◌∷◌,
-  ◌++◌,
-  length,
-  take,
-  drop,
-  map,
-  slice_range,
-  All,
-  Option,
-  Some,
-  None,
-  IfSome,
-  is_some,
-  Result,
-  Ok,
-  Err,
-  MatchResult,
-  refl,
-  sym,
-  ap,
-  ◌∙◌,
-  subst,
-  inl,
-  inr,
-  arith,
-}
+use Rattle.std.proofs.Common.{◌≡◌, ℕ, ◌+◌, ◌-◌, ◌<◌, ◌≤◌, min, true, false, List, [], ◌∷◌, ◌++◌, length, take, drop, map, slice_range, Option, Some, None, IfSome, is_some, Result, Ok, Err, refl, sym, ap, ◌∙◌, subst, arith}
 use Rattle.std.proofs.Math.Seq.{drop-append_seam, take-append_seam}
 use Rattle.std.proofs.lemmas.List.{append-nil, append_assoc, drop-drop, length-append, length-drop, length-take, length-take-le, take-append-drop, take_all, take_rest}
 use Rattle.std.specs.Option.{option_to_list}
 use Rattle.es_units.specs.declared.picture_finder.PictureFinder.{PictureFinder}
 use Rattle.es_units.specs.declared.unit_cutter.CutUnit.{CutUnit}
 use Rattle.es_units.specs.declared.unit_cutter.UnitCutter.{UnitCutter}
-use Rattle.es_units.specs.declared.units.Units.{Units}
 use Rattle.es_units.specs.PictureFinder.{HasFound, found_of, picture_places}
 use Rattle.es_units.specs.UnitCutter.{BeginWith, HasCut, bytes_pushed, ended_of, front_of, most_kept, place_of}
 use Rattle.es_units.specs.Units.{cut_units}
@@ -59,8 +18,6 @@ use Rattle.program_reader.specs.declared.passed_units.PassedUnits.{PassedUnits}
 use Rattle.program_reader.specs.declared.program_fault.ProgramFault.{ProgramFault}
 use Rattle.program_reader.specs.declared.program_fault.ProgramFault.TheVariants.{OutOfMemory}
 use Rattle.program_reader.specs.declared.timed_picture.TimedPicture.{TimedPicture}
-use Rattle.program_reader.specs.declared.times_walk.TimesWalk.{TimesWalk}
-use Rattle.program_reader.specs.declared.unit_sizes.SizesWanted.{SizesWanted}
 use Rattle.program_reader.specs.declared.video_places.VideoPlaces.{VideoPlaces}
 use Rattle.program_reader.specs.declared.video_walk.VideoWalk.{VideoWalk}
 use Rattle.program_reader.specs.KeptUnits.{kept_at}
