@@ -125,7 +125,7 @@ unfolding serde_json_on_literals digits
 missing = refl
 
 abbrev program : ProgramReport
-program = record { audio_bytes = 11800 ∷ []; choice = 0 ∷ 0 ∷ []; coarser = record { i = 0; p = 0; b = 0 }; descriptors_dropped = 0; not_carried = 260 ∷ []; number = 1; pes_dropped = 0; rest = 0; units_dropped = 0 }
+program = record { audio_bytes = 11800 ∷ []; choice = 0 ∷ 0 ∷ []; descriptors_dropped = 0; not_carried = 260 ∷ []; number = 1; pes_dropped = 0; rest = 0; units_dropped = 0 }
 
 run : report_line (Run 0 0 1 (program ∷ []) true 270) ≡ codes
     "{\"bound\":0,\"distortion\":0,\"nodes\":1,\"programs\":[{\"audio_bytes\":[11800],\"choice\":[0,0],\"descriptors_dropped\":0,\"not_carried\":[260],\"number\":1,\"pes_dropped\":0,\"rest\":0,\"units_dropped\":0}],\"search\":\"optimal\",\"slots\":270}\n"

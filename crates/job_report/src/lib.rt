@@ -27,6 +27,6 @@ pub use job::{Form, Job, ProgramJob};
 pub use line::report_text;
 pub use list_types::{ListOf, OutOfMemory, Text};
 pub use read::read_job;
-pub use report::{CoarserPictures, ProgramReport, Report, SlotMiss, SlotVerdict};
+pub use report::{ProgramReport, Report, SlotMiss, SlotVerdict};
 pub use shared::shared_file;
 pub use version_table::Choice;

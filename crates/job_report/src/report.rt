@@ -3,17 +3,6 @@ use arrayvec::ArrayString;
 use list_types::{ListOf, Text};
 use version_table::Choice;
 
-/// How many pictures of each type were sent coarser than their sources. A line doesn't print them.
-#[derive(Clone, Copy, Debug, PartialEq)]
-pub struct CoarserPictures {
-    /// Of I pictures.
-    pub i: u64,
-    /// Of P pictures.
-    pub p: u64,
-    /// Of B pictures.
-    pub b: u64,
-}
-
 /// What a run did with one program.
 #[derive(Drop)]
 pub struct ProgramReport {
@@ -21,8 +10,6 @@ pub struct ProgramReport {
     pub audio_bytes: ListOf<u64>,
     /// The version that was sent of each unit.
     pub choice: Choice,
-    /// How many of its units were sent coarser, by the types of their pictures.
-    pub coarser: CoarserPictures,
     /// Descriptors of its program map section that weren't carried.
     pub descriptors_dropped: u32,
     /// PIDs of its program map section that weren't carried, in its order.

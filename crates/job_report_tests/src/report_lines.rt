@@ -106,7 +106,6 @@ fn program_of(alloc: Global) -> Result<ProgramReport, OutOfMemory> {
     Ok(ProgramReport {
         audio_bytes: list_of(alloc, &[11_800, 0])?,
         choice: list_of(alloc, &[0, 2])?,
-        coarser: CoarserPictures { i: 0, p: 1, b: 0 },
         descriptors_dropped: 3,
         not_carried: list_of(alloc, &[259, 8191])?,
         number: 7,

@@ -1,39 +1,22 @@
 -- What is reported of a run, of a refused program and of a refused certificate.
-use Rattle.std.specs.Prelude.{◌==◌, ◌&&◌, ℕ, nat_lt, List, [], ◌∷◌, length, map, take, drop, count_by}
-use Rattle.std.specs.List.{zip}
+use Rattle.std.specs.Prelude.{◌==◌, ℕ, List, [], ◌∷◌, length, map, take, drop}
 use Rattle.arrayvec.specs.ArrayString.{ArrayString}
 use Rattle.bound_certificate.specs.declared.cert.Cert.{Cert}
 use Rattle.certificate_checker.specs.declared.why.CertFault.{CertFault}
 use Rattle.job_report.specs.declared.job.ProgramJob.{ProgramJob}
-use Rattle.job_report.specs.declared.report.CoarserPictures.{CoarserPictures}
 use Rattle.job_report.specs.declared.report.ProgramReport.{ProgramReport}
 use Rattle.job_report.specs.declared.report.Report.{Report}
 use Rattle.job_report.specs.declared.report.Report.TheVariants as reports
 use Rattle.job_programs.specs.declared.source_fault.SourceFault.{SourceFault}
 use Rattle.program_reader.specs.declared.program.Program.{Program}
-use Rattle.program_reader.specs.declared.program.UnitSource.{UnitSource}
-use Rattle.syntax_types.specs.declared.picture.TheConstants.{I_PICTURE, P_PICTURE, B_PICTURE}
 use Rattle.run_report.specs.Names.{name_of_kind, name_of_why}
 
--- how many units with a picture of this type are sent in a version above 0
-abbrev pub coarser_of : (kind : ℕ) → List UnitSource → (choice : List ℕ) → ℕ
-coarser_of kind units choice = count_by (λ (unit, version). (unit.kind == kind) && nat_lt 0 version) (zip units choice)
-
--- the same, type by type
-abbrev pub coarser_pictures : List UnitSource → (choice : List ℕ) → CoarserPictures
-coarser_pictures units choice = record {
-  i = coarser_of I_PICTURE units choice;
-  p = coarser_of P_PICTURE units choice;
-  b = coarser_of B_PICTURE units choice;
-}
-
--- one program: the bytes of each audio stream's PES packets, the version that is sent of each unit and how many are coarser, what isn't
--- carried, and its number in the output
+-- one program: the bytes of each audio stream's PES packets, the version that is sent of each unit, what isn't carried, and its number in
+-- the output
 abbrev pub program_report : ProgramJob → Program → (choice : List ℕ) → ProgramReport
 program_report job program choice = record {
   audio_bytes = map (λ audio. length audio.bytes) program.audios;
   choice = choice;
-  coarser = coarser_pictures program.units choice;
   descriptors_dropped = program.map.dropped;
   not_carried = program.not_carried;
   number = job.number;

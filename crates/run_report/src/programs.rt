@@ -1,11 +1,10 @@
 ghost use Rattle.std.specs.Prelude.{◌≡◌, ◌++◌, length, map, take, drop, IfOk, OnOk};
 ghost use Rattle.run_report.specs.Report as spec;
 
-use job_report::{CoarserPictures, ProgramJob, ProgramReport};
+use job_report::{ProgramJob, ProgramReport};
 use list_types::{ListOf, OutOfMemory};
-use program_reader::{AudioSource, Program, UnitSource};
+use program_reader::{AudioSource, Program};
 use std::alloc::Global;
-use syntax_types::{B_PICTURE, I_PICTURE, P_PICTURE};
 
 /// What is reported of the programs of a run, in order. Fails only for want of memory.
 pub(crate) fn program_reports(
@@ -75,7 +74,6 @@ fn program_report(
     Ok(ProgramReport {
         audio_bytes: audio_bytes(alloc, program.audios.as_slice())?,
         choice: ListOf::from_vec(choice.to_vec(alloc)?),
-        coarser: coarser_pictures(program.units.as_slice(), choice),
         descriptors_dropped: program.map.dropped,
         not_carried: ListOf::from_vec(program.not_carried.as_slice().to_vec(alloc)?),
         number: job.number,
@@ -83,26 +81,6 @@ fn program_report(
         rest: program.rest,
         units_dropped: program.units_dropped,
     })
-}
-
-/// How many units are sent coarser, by the types of their pictures.
-fn coarser_pictures(units: &[UnitSource], choice: &[u8]) -> CoarserPictures
-    ensures { result ≡ spec.coarser_pictures units.now choice.now }
-{
-    CoarserPictures {
-        i: coarser_of(I_PICTURE, units, choice),
-        p: coarser_of(P_PICTURE, units, choice),
-        b: coarser_of(B_PICTURE, units, choice),
-    }
-}
-
-/// How many units with a picture of a type are sent coarser.
-fn coarser_of(kind: u8, units: &[UnitSource], choice: &[u8]) -> u64
-    ensures { result ≡ spec.coarser_of kind units.now choice.now }
-{
-    let sent = units.iter().zip(choice);
-    sent.filter(|(unit, version)| unit.kind == kind && **version > 0)
-        .count() as u64
 }
 
 /// The bytes of each audio stream.
