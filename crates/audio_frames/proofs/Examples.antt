@@ -3,7 +3,7 @@ use Rattle.std.proofs.Common.{◌≡◌, ℕ, true, false, List, [], ◌∷◌, 
 use Rattle.bit_lists.specs.Fields.{bit, bits}
 use Rattle.audio_frames.specs.declared.pes_start.PesStart.{PesStart}
 use Rattle.audio_frames.specs.FrameHeader.{frame_length, is_header, sampling_rate}
-use Rattle.audio_frames.specs.Frames.{first_frame, is_audio_frame, is_rest, goes_on}
+use Rattle.audio_frames.specs.Frames.{first_frame, has_low_rate, is_audio_frame, is_rest, goes_on}
 use Rattle.audio_frames.specs.Times.{given_time, frame_ticks}
 
 -- ---- headers
@@ -81,3 +81,8 @@ ticks = (refl, refl, refl)
 -- of 2^38 frames: the product with the ticks of 1,152 seconds has 73 bits
 many_ticks : (frame_ticks 44100 274877906944 ≡ 193873070693564081) × (frame_ticks 16000 274877906944 ≡ 534362651099136000)
 many_ticks = (refl, refl)
+
+-- a low sampling rate is told by the first frame: 24,000 Hz, and 48,000 Hz at 32 kbit/s; where there is none it isn't said
+low_rates : (has_low_rate stream ≡ true) × (has_low_rate (0xFF ∷ 0xFD ∷ 0x14 ∷ 0x00 ∷ replicate 92 0x00) ≡ false) × (has_low_rate [] ≡ false)
+unfolding bit bits
+low_rates = (refl, refl, refl)

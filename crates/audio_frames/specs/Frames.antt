@@ -1,7 +1,8 @@
 -- The frames of an audio stream, one behind the other (ISO/IEC 11172-3, 2.4.1; where they begin and end is this project's).
 use Rattle.std.specs.Prelude.{◌≡◌, ℕ, ◌+◌, nat_lt, nat_le, Bool, true, false, ◌==◌, ◌&&◌, ◌||◌, List, [], ◌∷◌, length, drop, Option, Some}
 use Rattle.std.specs.List.{find, range_with_len}
-use Rattle.audio_frames.specs.FrameHeader.{syncword, frame_length, is_header, is_same_format}
+use Rattle.std.specs.Option.{option_map_or}
+use Rattle.audio_frames.specs.FrameHeader.{syncword, id, frame_length, is_header, is_same_format}
 
 -- a header at a place of the payload
 abbrev pub has_header : List ℕ → ℕ → Bool
@@ -27,6 +28,10 @@ is_first payload at =
 -- the least place with a first frame
 abbrev pub first_frame : List ℕ → Option ℕ
 first_frame payload = find (is_first payload) (range_with_len 0 (length payload))
+
+-- the first frame is one of a low sampling rate (ISO/IEC 13818-3); false where there is none
+abbrev pub has_low_rate : List ℕ → Bool
+has_low_rate payload = option_map_or (λ first. id (drop first payload) == 0) (first_frame payload) false
 
 -- a whole frame of the same format
 abbrev pub is_audio_frame : List ℕ → ℕ → ℕ → Bool

@@ -8,6 +8,7 @@
 //! versions together too.
 use arrayvec::ArrayVec;
 use es_units::split_units;
+use job_report::Form;
 use pes_units::PesHeader;
 use picture_reader::{Headers, PictureFault, check_picture};
 use program_reader::{Program, UnitSizes, UnitSource, read_program, read_sized_program};
@@ -56,6 +57,7 @@ pub fn work(rt: &HostRuntime, words: &[String]) -> io::Result<()> {
             let sized = match read_sized_program(
                 rt.alloc(),
                 file.as_slice(),
+                Form::Ts,
                 number,
                 &[],
                 START,
@@ -71,7 +73,14 @@ pub fn work(rt: &HostRuntime, words: &[String]) -> io::Result<()> {
             )
         }
         _ => {
-            let program = match read_program(rt.alloc(), file.as_slice(), number, &[], START) {
+            let program = match read_program(
+                rt.alloc(),
+                file.as_slice(),
+                Form::Ts,
+                number,
+                &[],
+                START,
+            ) {
                 Ok(program) => program,
                 Err(fault) => return println!(rt; "{fault}"),
             };

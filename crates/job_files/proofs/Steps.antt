@@ -6,6 +6,7 @@ use Rattle.shelf_io.specs.Causes.{ReadCauses}
 use Rattle.shelf_io.specs.Counts.{Rose, ShelfCounts}
 use Rattle.shelf_io.specs.Files.{Files, Lacks}
 use Rattle.shelf_io.proofs.Counted.{rose_later}
+use Rattle.job_report.specs.declared.job.Form.{Form}
 use Rattle.job_report.specs.declared.job.Job.{Job}
 use Rattle.job_report.specs.declared.job.ProgramJob.{ProgramJob}
 use Rattle.job_report.specs.ValidJob.{IsValidJob}
@@ -29,7 +30,7 @@ use Rattle.job_files.specs.Private.Texts.{IsTextStop}
 
 -- a program that a file holds can be sent
 abbrev pub HeldIsSendable : Type 0
-HeldIsSendable = (file : List ℕ) (number : ℕ) (dropped : List ℕ) (start : ℕ) (program : Program) → IsProgramOfFile file number dropped start program → IsSendable program
+HeldIsSendable = (form : Form) (file : List ℕ) (number : ℕ) (dropped : List ℕ) (start : ℕ) (program : Program) → IsProgramOfFile form file number dropped start program → IsSendable program
 
 -- so the programs of jobs can be
 pub can_be_sent : HeldIsSendable → (slot start : ℕ) (contents : List (List ℕ)) (programs : List Program) (jobs : List ProgramJob) (further : List (List ℕ)) (more : List Program)
@@ -40,7 +41,7 @@ can_be_sent law slot start contents programs [] (content ∷ further) more are =
 can_be_sent law slot start contents programs (job ∷ jobs) [] more are = absurd are
 can_be_sent law slot start contents programs (job ∷ jobs) (content ∷ further) [] are = absurd are
 can_be_sent law slot start contents programs (job ∷ jobs) (content ∷ further) (program ∷ more) (next, rest) =
-    All-cons IsSendable program more (law content job.program job.drop.items start program next.holds)
+    All-cons IsSendable program more (law job.form content job.program job.drop.items start program next.holds)
     (can_be_sent law slot start (contents ++ content ∷ []) (programs ++ program ∷ []) jobs further more rest)
 
 -- each of them can be sent

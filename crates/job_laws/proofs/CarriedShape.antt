@@ -1,13 +1,23 @@
 -- The map of a program that was read has one video stream and audio streams behind it, and so has the map that goes out.
-use Rattle.std.proofs.Common.{◌≡◌, ℕ, ◌+◌, Bool, true, false, cond, List, [], ◌∷◌, ◌++◌, All, Some, refl, ap, subst, not, ◌&&◌}
+use Rattle.std.proofs.Common.{◌≡◌, ℕ, ◌+◌, ◌==◌, Bool, true, false, cond, List, [], ◌∷◌, ◌++◌, All, map, get_or, Some, refl, sym, ap, subst, not, ◌&&◌, ◌||◌}
 use Rattle.std.specs.List.{find}
 use Rattle.std.proofs.lemmas.Bool.{and_parts}
-use Rattle.std.proofs.lemmas.List.Elements.{All-cons, All-head, All-nil, All-tail}
+use Rattle.std.proofs.lemmas.List.Elements.{All-cons, All-head, All-map, All-nil, All-tail}
 use Rattle.std.proofs.lemmas.Option.{none-some, same_Some}
+use Rattle.audio_frames.specs.Frames.{has_low_rate}
 use Rattle.psi_tables.specs.declared.program_map.ProgramMap.{ProgramMap}
 use Rattle.psi_tables.specs.declared.stream.Stream.{Stream}
+use Rattle.ts_demux.specs.declared.demuxed.AudioStream.{AudioStream}
+use Rattle.ts_demux.specs.declared.demuxed.Demuxed.{Demuxed}
 use Rattle.ts_demux.specs.Demux.{HasCarriedMap}
 use Rattle.ts_demux.specs.Streams.{audios_of, is_among, is_audio, is_carried, is_video, video_of, without_video}
+use Rattle.program_stream.specs.Streams.{map_stream}
+use Rattle.job_report.specs.declared.job.Form.{Form}
+use Rattle.program_reader.specs.AudioTypes.{typed}
+use Rattle.program_reader.specs.Packets.{joined}
+use Rattle.program_reader.specs.Audio.{taken_of}
+use Rattle.program_reader.specs.Programs.{IsTakenOut, StandIn, in_packets, in_elements}
+use Rattle.program_table.proofs.TakenOut.{typed-streams, typed_stream}
 use Rattle.mux_writer.specs.Layout.{video_pid, with_output_pids, with_pids_from}
 use Rattle.parsing_laws.specs.TakenOut.{HasStreams}
 
@@ -39,7 +49,7 @@ audios-audio dropped earlier (s ∷ ss) = by_test (is_carried dropped earlier s)
         All-cons IsAudio s (audios_of dropped (earlier ++ s.pid ∷ []) ss) (and_parts (is_audio s) (not (is_among dropped s.pid)) parts.0).0 more
     by_test false is more less = less
 
-pub carried-kinds-are : (file : List ℕ) (number : ℕ) (dropped : List ℕ) (carried : ProgramMap) (others : List ℕ) → HasCarriedMap file number dropped carried others → HasKinds carried
+carried-kinds-are : (file : List ℕ) (number : ℕ) (dropped : List ℕ) (carried : ProgramMap) (others : List ℕ) → HasCarriedMap file number dropped carried others → HasKinds carried
 carried-kinds-are file number dropped carried others has =
     let is = has.carried_is in record {
       video = is.video;
@@ -50,6 +60,30 @@ carried-kinds-are file number dropped carried others has =
         are_audio = audios-audio dropped (is.video.pid ∷ []) (without_video has.whole.streams.items);
       };
     }
+
+typed-audio : (audio : AudioStream) → IsAudio (typed_stream audio)
+typed-audio audio = by_test (has_low_rate (joined (taken_of audio)))
+  where
+    by_test : (low : Bool) → (cond low 4 3 == 3 || cond low 4 3 == 4) ≡ true
+    by_test true = refl
+    by_test false = refl
+
+by-form : (form : Form) (file : List ℕ) (number : ℕ) (drop : List ℕ) (found : Demuxed) (cut : ℕ) → StandIn form file number drop found cut → HasKinds (typed form found).map
+by-form form file number drop found cut (in_packets is_form is none) =
+    subst (λ (f : Form). HasKinds (typed f found).map) (sym is_form) (carried-kinds-are file number drop found.map found.not_carried is.tables)
+by-form form file number drop found cut (in_elements is_form one is) = subst (λ (f : Form). HasKinds (typed f found).map) (sym is_form) (record {
+  video = map_stream 2 is.video;
+  audios = map typed_stream found.audios;
+  has = record {
+    streams = typed-streams file drop found cut is;
+    is_video = refl;
+    are_audio = All-map IsAudio typed_stream found.audios (λ k d within. typed-audio (get_or found.audios k d));
+  };
+})
+
+-- so it is in a file of either form
+pub taken-kinds : (form : Form) (file : List ℕ) (number : ℕ) (drop : List ℕ) (demuxed : Demuxed) → IsTakenOut form file number drop demuxed → HasKinds demuxed.map
+taken-kinds form file number drop demuxed is = subst (λ (d : Demuxed). HasKinds d.map) (sym is.typed_is) (by-form form file number drop is.found is.cut is.stand)
 
 audio-kept : (pid : ℕ) (streams : List Stream) → All IsAudio streams → All IsAudio (with_pids_from pid streams)
 audio-kept pid [] all = All-nil IsAudio

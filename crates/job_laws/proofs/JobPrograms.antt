@@ -112,12 +112,12 @@ module _ (law : ReadIsSendable) (taken : TakenOutLaw) (gathered : GatheredAgain)
   one-read : (n : ℕ) (job : ProgramJob) (jobs : List ProgramJob) (p : Program) (coarser : List ℕ) (v : List (List UnitVersion)) (choice : List ℕ) (before rest : List ProgramMap)
       (more : List CodedUnit)
       → layout.maps.items ≡ before ++ with_output_pids n job.number p.map ∷ rest → length before ≡ n → 1 ≤ job.number → All (IsOtherNumber (job ∷ jobs)) before → (content : List ℕ) (start : ℕ)
-      → IsProgramOfFile content job.program job.drop.items start p → AreBytes p.video
+      → IsProgramOfFile job.form content job.program job.drop.items start p → AreBytes p.video
       → AreVideoVersions p.video coarser None p.units v → AllZip HasVersion (unit_rows job.weight job.drift p.units v ++ more) choice
       → AllCarry file (length rows) (pids_of (with_output_pids n job.number p.map)) (video_items p.units v choice ∷ map audio_items p.audios)
       → ParsesToProgram file content job (with_output_pids n job.number p.map) (sent_units p.units v choice)
   one-read n job jobs p coarser v choice before rest more split size some apart content start of bytes versions fits carry =
-      let ready : IsReady p = ready-one law content job.program job.drop.items start p of in
+      let ready : IsReady p = ready-one law job.form content job.program job.drop.items start p of in
       let is = of.program_is in
       let program_map : ProgramMap = with_output_pids n job.number p.map in
       let goes : GoesOutAs program_map (video_pid n) = output-kinds n job.number p.map ready.kinds in
@@ -141,9 +141,9 @@ module _ (law : ReadIsSendable) (taken : TakenOutLaw) (gathered : GatheredAgain)
         video = read;
         units =
             again (sent_units p.units v choice) (bytes_of_packets (taken_out file program_map goes.video goes.audios).video) read
-            (sent-led job.weight job.drift p.video coarser None p.units v choice more versions (led content job.program job.drop.items start p coarser v bytes of versions) fits)
-            (sent-whole job.weight job.drift None p.units v choice more (whole content job.program job.drop.items start p coarser v bytes of versions) fits);
-        slices = sent-slices job.weight job.drift None p.units v choice more (whole content job.program job.drop.items start p coarser v bytes of versions) fits;
+            (sent-led job.weight job.drift p.video coarser None p.units v choice more versions (led job.form content job.program job.drop.items start p coarser v bytes of versions) fits)
+            (sent-whole job.weight job.drift None p.units v choice more (whole job.form content job.program job.drop.items start p coarser v bytes of versions) fits);
+        slices = sent-slices job.weight job.drift None p.units v choice more (whole job.form content job.program job.drop.items start p coarser v bytes of versions) fits;
         source = of.demuxed;
         source_is = of.demuxed_is;
         audio = audio-packets gathered file goes.audios (map (λ (stream : AudioStream). bytes_of_packets (taken_of stream)) of.demuxed.audios)
@@ -166,7 +166,7 @@ module _ (law : ReadIsSendable) (taken : TakenOutLaw) (gathered : GatheredAgain)
   read-back n (j ∷ js) (p ∷ ps) (v ∷ vs) choice before split size apart pairs valid slots start read done [] next are_versions bytes fits carry = absurd next
   read-back n (j ∷ js) (p ∷ ps) (v ∷ vs) choice before split size apart pairs valid slots start read done (c ∷ cs) next are_versions bytes fits carry =
       let program_map : ProgramMap = with_output_pids n j.number p.map in
-      let is : IsReady p = ready-one law c j.program j.drop.items start p next.0.holds in
+      let is : IsReady p = ready-one law j.form c j.program j.drop.items start p next.0.holds in
       let row : ProgramRow = program_row j.weight j.drift p v in
       let later : List CodedUnit = flat_map (λ (row : ProgramRow). row.units) (program_rows js ps vs) in
       let many : length row.units ≡ length p.units = unit_rows-count j.weight j.drift p.video j.coarser.items _ p.units v are_versions.0 in

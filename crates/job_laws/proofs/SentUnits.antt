@@ -16,6 +16,7 @@ use Rattle.program_reader.specs.Carry.{unit_weight}
 use Rattle.program_reader.specs.declared.program.Program.{Program}
 use Rattle.program_reader.specs.declared.program.UnitSource.{UnitSource}
 use Rattle.program_reader.specs.Programs.{IsProgramOfFile}
+use Rattle.job_report.specs.declared.job.Form.{Form}
 use Rattle.version_maker.specs.declared.version.UnitVersion.{UnitVersion}
 use Rattle.version_source.specs.Versions.{AreVideoVersions, chosen_bytes}
 use Rattle.unit_laws.specs.OwnCodes.{HasNoCodeInSlices, HaveNoCodeInSlices, codes_from, own_codes}
@@ -29,13 +30,13 @@ use Rattle.job_laws.specs.ParsesTo.{sent_units}
 
 abbrev pub VersionsAreWhole : Type 0
 VersionsAreWhole =
-    (content : List ℕ) (number : ℕ) (dropped : List ℕ) (start : ℕ) (program : Program) (coarser : List ℕ) (versions : List (List UnitVersion)) → AreBytes program.video
-    → IsProgramOfFile content number dropped start program → AreVideoVersions program.video coarser None program.units versions → AreWholeVersions None versions
+    (form : Form) (content : List ℕ) (number : ℕ) (dropped : List ℕ) (start : ℕ) (program : Program) (coarser : List ℕ) (versions : List (List UnitVersion)) → AreBytes program.video
+    → IsProgramOfFile form content number dropped start program → AreVideoVersions program.video coarser None program.units versions → AreWholeVersions None versions
 
 abbrev pub VersionsAreLed : Type 0
 VersionsAreLed =
-    (content : List ℕ) (number : ℕ) (dropped : List ℕ) (start : ℕ) (program : Program) (coarser : List ℕ) (versions : List (List UnitVersion)) → AreBytes program.video
-    → IsProgramOfFile content number dropped start program → AreVideoVersions program.video coarser None program.units versions → BeginWithSequence versions
+    (form : Form) (content : List ℕ) (number : ℕ) (dropped : List ℕ) (start : ℕ) (program : Program) (coarser : List ℕ) (versions : List (List UnitVersion)) → AreBytes program.video
+    → IsProgramOfFile form content number dropped start program → AreVideoVersions program.video coarser None program.units versions → BeginWithSequence versions
 
 abbrev pub bytes_sent : List SentUnit → List (List ℕ)
 bytes_sent units = map (λ (unit : SentUnit). unit.bytes) units

@@ -9,6 +9,7 @@ use Rattle.ts_demux.specs.Demux.{IsDemuxed}
 use Rattle.program_reader.specs.declared.program.Program.{Program}
 use Rattle.program_reader.specs.declared.program.UnitSource.{UnitSource}
 use Rattle.program_reader.specs.Audio.{taken_of}
+use Rattle.program_reader.specs.Programs.{IsTakenOut}
 use Rattle.version_maker.specs.declared.version.UnitVersion.{UnitVersion}
 use Rattle.version_source.specs.Versions.{chosen_bytes}
 use Rattle.unit_laws.specs.OwnCodes.{HaveNoCodeInSlices}
@@ -35,7 +36,7 @@ pub record ParsesToProgram (stream content : List ℕ) (job : ProgramJob) (progr
       ≡ Some (record { dropped = 0; cuts = placed_units 0 (map (λ unit. unit.bytes) sent) })
   pub slices : HaveNoCodeInSlices None (map (λ unit. unit.bytes) sent)
   pub source : Demuxed
-  pub source_is : IsDemuxed content job.program job.drop.items source
+  pub source_is : IsTakenOut job.form content job.program job.drop.items source
   pub audio : map (λ audio. bytes_of_packets audio.units) demuxed.audios ≡ map (λ audio. bytes_of_packets (taken_of audio)) source.audios
 
 -- A stream parses to the programs of a job, whose files have these contents; the first program has this number from 0. Each is there under the number that the

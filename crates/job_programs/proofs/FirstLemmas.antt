@@ -54,7 +54,7 @@ pub record FirstBehind (job : Job) (contents : List (List ℕ)) (fault : SourceF
   pub programs : List Program
   pub programs_are : AreProgramsOf job.slot job.start before read programs
   pub number : fault.program ≡ length before
-  pub refusal : IsRefusedBehind job.slot job.start (bytes_of_files read) (units_of_programs programs) refused.program refused.drop.items (job_keeps refused) content fault.kind fault.at
+  pub refusal : IsRefusedBehind job.slot job.start (bytes_of_files read) (units_of_programs programs) refused.form refused.program refused.drop.items (job_keeps refused) content fault.kind fault.at
 
 abbrev pub first-of : (job : Job) (contents : List (List ℕ)) (fault : SourceFault) → IsFirstRefused job contents fault → FirstBehind job contents fault
 first-of job contents fault r = record {
@@ -78,7 +78,7 @@ none-refused one never job contents programs fault are r =
     let jobs' = subst (λ (jobs : List ProgramJob). AreProgramsOf job.slot job.start jobs contents programs) r.split are in
     let both = subst (λ (cs : List (List ℕ)). AreProgramsOf job.slot job.start (r.before ++ r.refused ∷ r.after) cs programs) r.contents_are jobs' in
     let next = next-in one job.slot job.start r.before r.read r.programs r.programs_are.hold r.refused r.after r.content r.further programs both in
-    not-both one never job.slot job.start (bytes_of_files r.read) (units_of_programs r.programs) r.refused.program r.refused.drop.items (job_keeps r.refused) r.content next.0 fault.kind fault.at next.1 r.refusal
+    not-both one never job.slot job.start (bytes_of_files r.read) (units_of_programs r.programs) r.refused.form r.refused.program r.refused.drop.items (job_keeps r.refused) r.content next.0 fault.kind fault.at next.1 r.refusal
 
 -- none before another
 not-earlier : OneProgram → NeverBoth → (job : Job) (contents : List (List ℕ)) (a b : SourceFault) (ra : FirstBehind job contents a) (rb : FirstBehind job contents b)
@@ -91,19 +91,19 @@ not-earlier one never job contents a b ra rb small =
     let are = subst (λ (js : List ProgramJob). AreProgramsOf job.slot job.start js rb.read rb.programs) jobs.1 rb.programs_are in
     let both = subst (λ (l : List (List ℕ)). AreProgramsOf job.slot job.start (ra.before ++ ra.refused ∷ jobs.0) l rb.programs) cs.1 are in
     let next = next-in one job.slot job.start ra.before ra.read ra.programs ra.programs_are.hold ra.refused jobs.0 ra.content cs.0 rb.programs both in
-    not-both one never job.slot job.start (bytes_of_files ra.read) (units_of_programs ra.programs) ra.refused.program ra.refused.drop.items (job_keeps ra.refused) ra.content next.0 a.kind a.at next.1 ra.refusal
+    not-both one never job.slot job.start (bytes_of_files ra.read) (units_of_programs ra.programs) ra.refused.form ra.refused.program ra.refused.drop.items (job_keeps ra.refused) ra.content next.0 a.kind a.at next.1 ra.refusal
 
 same-refused : OneRefusal → NeverBoth → (slot start : ℕ) (read read' : List (List ℕ)) (ps ps' : List Program) (job job' : ProgramJob) (content content' : List ℕ) (kind kind' : SourceKind) (at at' : ℕ)
     → read ≡ read' → ps ≡ ps' → job ≡ job' → content ≡ content'
-    → IsRefusedBehind slot start (bytes_of_files read) (units_of_programs ps) job.program job.drop.items (job_keeps job) content kind at
-    → IsRefusedBehind slot start (bytes_of_files read') (units_of_programs ps') job'.program job'.drop.items (job_keeps job') content' kind' at'
+    → IsRefusedBehind slot start (bytes_of_files read) (units_of_programs ps) job.form job.program job.drop.items (job_keeps job) content kind at
+    → IsRefusedBehind slot start (bytes_of_files read') (units_of_programs ps') job'.form job'.program job'.drop.items (job_keeps job') content' kind' at'
     → (kind ≡ kind') × (at ≡ at')
 same-refused only never slot start read read' ps ps' job job' content content' kind kind' at at' er ep ej ec r r' =
-    let r1 = subst (λ (l : List (List ℕ)). IsRefusedBehind slot start (bytes_of_files l) (units_of_programs ps') job'.program job'.drop.items (job_keeps job') content' kind' at') (sym er) r' in
-    let r2 = subst (λ (l : List Program). IsRefusedBehind slot start (bytes_of_files read) (units_of_programs l) job'.program job'.drop.items (job_keeps job') content' kind' at') (sym ep) r1 in
-    let r3 = subst (λ (j : ProgramJob). IsRefusedBehind slot start (bytes_of_files read) (units_of_programs ps) j.program j.drop.items (job_keeps j) content' kind' at') (sym ej) r2 in
-    let r4 = subst (λ (l : List ℕ). IsRefusedBehind slot start (bytes_of_files read) (units_of_programs ps) job.program job.drop.items (job_keeps job) l kind' at') (sym ec) r3 in
-    one-refusal only never slot start (bytes_of_files read) (units_of_programs ps) job.program job.drop.items (job_keeps job) content kind kind' at at' r r4
+    let r1 = subst (λ (l : List (List ℕ)). IsRefusedBehind slot start (bytes_of_files l) (units_of_programs ps') job'.form job'.program job'.drop.items (job_keeps job') content' kind' at') (sym er) r' in
+    let r2 = subst (λ (l : List Program). IsRefusedBehind slot start (bytes_of_files read) (units_of_programs l) job'.form job'.program job'.drop.items (job_keeps job') content' kind' at') (sym ep) r1 in
+    let r3 = subst (λ (j : ProgramJob). IsRefusedBehind slot start (bytes_of_files read) (units_of_programs ps) j.form j.program j.drop.items (job_keeps j) content' kind' at') (sym ej) r2 in
+    let r4 = subst (λ (l : List ℕ). IsRefusedBehind slot start (bytes_of_files read) (units_of_programs ps) job.form job.program job.drop.items (job_keeps job) l kind' at') (sym ec) r3 in
+    one-refusal only never slot start (bytes_of_files read) (units_of_programs ps) job.form job.program job.drop.items (job_keeps job) content kind kind' at at' r r4
 
 pub same-fault : (p p' : ℕ) (k k' : SourceKind) (at at' : ℕ) → p ≡ p' → k ≡ k' → at ≡ at'
     → let one : SourceFault = record { program = p; kind = k; at = at } in let other : SourceFault = record { program = p'; kind = k'; at = at' } in one ≡ other

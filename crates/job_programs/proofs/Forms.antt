@@ -30,19 +30,19 @@ kept slot program is = record {
 -- ---- one program
 
 pub program-of : (slot start : ℕ) (contents : List (List ℕ)) (programs : List Program) (job : ProgramJob) (content : List ℕ) (program : Program)
-    → IsProgramBehind slot start (bytes_of_files contents) (units_of_programs programs) job.program job.drop.items (job_keeps job) content program
+    → IsProgramBehind slot start (bytes_of_files contents) (units_of_programs programs) job.form job.program job.drop.items (job_keeps job) content program
     → IsNextProgram slot start contents programs job content program
 program-of slot start contents programs job content program is =
     record { few_bytes = is.few_bytes; holds = is.holds; few_units = is.few_units; within = keeps slot program is.within; share = is.near }
 
 pub behind-of : (slot start : ℕ) (contents : List (List ℕ)) (programs : List Program) (job : ProgramJob) (content : List ℕ) (program : Program)
     → IsNextProgram slot start contents programs job content program
-    → IsProgramBehind slot start (bytes_of_files contents) (units_of_programs programs) job.program job.drop.items (job_keeps job) content program
+    → IsProgramBehind slot start (bytes_of_files contents) (units_of_programs programs) job.form job.program job.drop.items (job_keeps job) content program
 behind-of slot start contents programs job content program is =
     record { few_bytes = is.few_bytes; holds = is.holds; few_units = is.few_units; within = kept slot program is.within; near = is.share }
 
 pub refused-of : (slot start : ℕ) (contents : List (List ℕ)) (programs : List Program) (job : ProgramJob) (content : List ℕ) (kind : SourceKind) (at : ℕ)
-    → IsRefusedBehind slot start (bytes_of_files contents) (units_of_programs programs) job.program job.drop.items (job_keeps job) content kind at
+    → IsRefusedBehind slot start (bytes_of_files contents) (units_of_programs programs) job.form job.program job.drop.items (job_keeps job) content kind at
     → IsNextRefused slot start contents programs job content kind at
 refused-of slot start contents programs job content kind at (behind.many_bytes many k a) = public.many_bytes many k a
 refused-of slot start contents programs job content kind at (behind.file few bad) = public.file few bad
@@ -53,7 +53,7 @@ refused-of slot start contents programs job content kind at (behind.far program 
 
 pub refused-behind : (slot start : ℕ) (contents : List (List ℕ)) (programs : List Program) (job : ProgramJob) (content : List ℕ) (kind : SourceKind) (at : ℕ)
     → IsNextRefused slot start contents programs job content kind at
-    → IsRefusedBehind slot start (bytes_of_files contents) (units_of_programs programs) job.program job.drop.items (job_keeps job) content kind at
+    → IsRefusedBehind slot start (bytes_of_files contents) (units_of_programs programs) job.form job.program job.drop.items (job_keeps job) content kind at
 refused-behind slot start contents programs job content kind at (public.many_bytes many k a) = behind.many_bytes many k a
 refused-behind slot start contents programs job content kind at (public.file few bad) = behind.file few bad
 refused-behind slot start contents programs job content kind at (public.many_units program few holds many k a) = behind.many_units program few holds many k a

@@ -112,7 +112,7 @@ by-place one never files job number fault m r (inr (inr small)) =
     let are = subst (λ (js : List ProgramJob). AreProgramsOf job.slot job.start js s.contents s.programs) front.1 (are-of job.slot job.start s.before s.contents s.programs s.programs_are) in
     let both = subst (λ (cs : List (List ℕ)). AreProgramsOf job.slot job.start (f.before ++ f.refused ∷ front.0) cs s.programs) is are in
     let next = next-in one job.slot job.start f.before f.read f.programs f.programs_are.hold f.refused front.0 f.content same.behind' s.programs both in
-    not-both one never job.slot job.start (bytes_of_files f.read) (units_of_programs f.programs) f.refused.program f.refused.drop.items (job_keeps f.refused) f.content next.0 fault.kind fault.at next.1 f.refusal
+    not-both one never job.slot job.start (bytes_of_files f.read) (units_of_programs f.programs) f.refused.form f.refused.program f.refused.drop.items (job_keeps f.refused) f.content next.0 fault.kind fault.at next.1 f.refusal
 
 pub missing-not-refused : OneProgram → NeverBoth → (files : Files) (job : Job) (number : ℕ) (fault : SourceFault) → IsMissingOn files job number → IsRefusedOn (Some files) job fault → ⊥
 missing-not-refused one never files job number fault m r =

@@ -5,6 +5,7 @@ use Rattle.std.specs.FinMap.{get}
 use Rattle.std.specs.Option.{IsSomeAnd}
 use Rattle.shelf_io.specs.Counts.{ShelfCounts}
 use Rattle.shelf_io.specs.Files.{Files, IfTold}
+use Rattle.job_report.specs.declared.job.Form.{Form}
 use Rattle.program_reader.specs.declared.limits.TheConstants.{FILE_BYTES_MOST}
 use Rattle.program_reader.specs.declared.program.Program.{Program}
 use Rattle.program_reader.specs.declared.program_fault.SourceKind.{SourceKind}
@@ -30,61 +31,61 @@ is-whole bytes n front content room is few =
     let size : length front ≡ min (n + 1) (length content) = ap length is ∙ length-take (n + 1) content in
     is ∙ take_all (n + 1) content (omega (arith, room, few, size))
 
-refused-whole : (slot start bytes units number : ℕ) (drop : List ℕ) (keeps : Program → Type 0) (n : ℕ) (front content : List ℕ) (kind : SourceKind) (at : ℕ) → bytes + n ≡ FILE_BYTES_MOST
-    → front ≡ take (n + 1) content → IsRefusedBehind slot start bytes units number drop keeps front kind at → IsRefusedBehind slot start bytes units number drop keeps content kind at
-refused-whole slot start bytes units number drop keeps n front content kind at room is (many_bytes many k a) =
+refused-whole : (slot start bytes units : ℕ) (form : Form) (number : ℕ) (drop : List ℕ) (keeps : Program → Type 0) (n : ℕ) (front content : List ℕ) (kind : SourceKind) (at : ℕ) → bytes + n ≡ FILE_BYTES_MOST
+    → front ≡ take (n + 1) content → IsRefusedBehind slot start bytes units form number drop keeps front kind at → IsRefusedBehind slot start bytes units form number drop keeps content kind at
+refused-whole slot start bytes units form number drop keeps n front content kind at room is (many_bytes many k a) =
     let size : length front ≡ min (n + 1) (length content) = ap length is ∙ length-take (n + 1) content in
     many_bytes (omega (arith, many, size)) k a
-refused-whole slot start bytes units number drop keeps n front content kind at room is (file few bad) =
-    subst (λ (l : List ℕ). IsRefusedBehind slot start bytes units number drop keeps l kind at) (is-whole bytes n front content room is few) (file few bad)
-refused-whole slot start bytes units number drop keeps n front content kind at room is (many_units program few holds many k a) =
-    subst (λ (l : List ℕ). IsRefusedBehind slot start bytes units number drop keeps l kind at) (is-whole bytes n front content room is few) (many_units program few holds many k a)
-refused-whole slot start bytes units number drop keeps n front content kind at room is (late program few holds past k a) =
-    subst (λ (l : List ℕ). IsRefusedBehind slot start bytes units number drop keeps l kind at) (is-whole bytes n front content room is few) (late program few holds past k a)
-refused-whole slot start bytes units number drop keeps n front content kind at room is (far program few holds past k a) =
-    subst (λ (l : List ℕ). IsRefusedBehind slot start bytes units number drop keeps l kind at) (is-whole bytes n front content room is few) (far program few holds past k a)
+refused-whole slot start bytes units form number drop keeps n front content kind at room is (file few bad) =
+    subst (λ (l : List ℕ). IsRefusedBehind slot start bytes units form number drop keeps l kind at) (is-whole bytes n front content room is few) (file few bad)
+refused-whole slot start bytes units form number drop keeps n front content kind at room is (many_units program few holds many k a) =
+    subst (λ (l : List ℕ). IsRefusedBehind slot start bytes units form number drop keeps l kind at) (is-whole bytes n front content room is few) (many_units program few holds many k a)
+refused-whole slot start bytes units form number drop keeps n front content kind at room is (late program few holds past k a) =
+    subst (λ (l : List ℕ). IsRefusedBehind slot start bytes units form number drop keeps l kind at) (is-whole bytes n front content room is few) (late program few holds past k a)
+refused-whole slot start bytes units form number drop keeps n front content kind at room is (far program few holds past k a) =
+    subst (λ (l : List ℕ). IsRefusedBehind slot start bytes units form number drop keeps l kind at) (is-whole bytes n front content room is few) (far program few holds past k a)
 
-next-whole : (told : Option Files) (name : List ℕ) (slot start bytes units number : ℕ) (drop : List ℕ) (keeps : Program → Type 0) (n : ℕ) (front : List ℕ) (size : ℕ) (program : Program)
+next-whole : (told : Option Files) (name : List ℕ) (slot start bytes units : ℕ) (form : Form) (number : ℕ) (drop : List ℕ) (keeps : Program → Type 0) (n : ℕ) (front : List ℕ) (size : ℕ) (program : Program)
     → bytes + n ≡ FILE_BYTES_MOST → length front ≤ n + 1 → IfTold told name (λ content. front ≡ take (n + 1) content)
-    → size ≡ length front → IsProgramBehind slot start bytes units number drop keeps front program
-    → IsNextOn told name slot start bytes units number drop keeps size program
-next-whole told name slot start bytes units number drop keeps n front size program room short told_is size_is next =
+    → size ≡ length front → IsProgramBehind slot start bytes units form number drop keeps front program
+    → IsNextOn told name slot start bytes units form number drop keeps size program
+next-whole told name slot start bytes units form number drop keeps n front size program room short told_is size_is next =
     let f = found told name front n short told_is in
     let whole : front ≡ f.0 = is-whole bytes n front f.0 room f.2 next.few_bytes in
     record {
       content = f.0;
       held = f.1;
       size_is = size_is ∙ ap length whole;
-      next = subst (λ (l : List ℕ). IsProgramBehind slot start bytes units number drop keeps l program) whole next;
+      next = subst (λ (l : List ℕ). IsProgramBehind slot start bytes units form number drop keeps l program) whole next;
     }
 
 -- the next program is the one of the file
-pub next-on : (told : Option Files) (name : List ℕ) (slot start bytes units number : ℕ) (drop : List ℕ) (keeps : Program → Type 0) (n : ℕ) (content front : List ℕ) (result : Result NextProgram ProgramsFault)
+pub next-on : (told : Option Files) (name : List ℕ) (slot start bytes units : ℕ) (form : Form) (number : ℕ) (drop : List ℕ) (keeps : Program → Type 0) (n : ℕ) (content front : List ℕ) (result : Result NextProgram ProgramsFault)
     → bytes + n ≡ FILE_BYTES_MOST → length content ≤ n + 1 → IfTold told name (λ whole. content ≡ take (n + 1) whole) → front ≡ content
-    → IfOk result (λ next. (next.size ≡ length front) × IsProgramBehind slot start bytes units number drop keeps front next.program)
-    → IfOk result (λ next. IsNextOn told name slot start bytes units number drop keeps next.size next.program)
-next-on told name slot start bytes units number drop keeps n content front (Err fault) room short told_is same holds = tt
-next-on told name slot start bytes units number drop keeps n content front (Ok next) room short told_is same holds =
-    let program = subst (λ (l : List ℕ). IsProgramBehind slot start bytes units number drop keeps l next.program) same holds.1 in
-    next-whole told name slot start bytes units number drop keeps n content next.size next.program room short told_is (holds.0 ∙ ap length same) program
+    → IfOk result (λ next. (next.size ≡ length front) × IsProgramBehind slot start bytes units form number drop keeps front next.program)
+    → IfOk result (λ next. IsNextOn told name slot start bytes units form number drop keeps next.size next.program)
+next-on told name slot start bytes units form number drop keeps n content front (Err fault) room short told_is same holds = tt
+next-on told name slot start bytes units form number drop keeps n content front (Ok next) room short told_is same holds =
+    let program = subst (λ (l : List ℕ). IsProgramBehind slot start bytes units form number drop keeps l next.program) same holds.1 in
+    next-whole told name slot start bytes units form number drop keeps n content next.size next.program room short told_is (holds.0 ∙ ap length same) program
 
-fault-on : (told : Option Files) (name : List ℕ) (slot start bytes units number : ℕ) (drop : List ℕ) (keeps : Program → Type 0) (place n : ℕ) (content : List ℕ) (old new : ShelfCounts) (since : ℕ) (fault : ProgramsFault)
+fault-on : (told : Option Files) (name : List ℕ) (slot start bytes units : ℕ) (form : Form) (number : ℕ) (drop : List ℕ) (keeps : Program → Type 0) (place n : ℕ) (content : List ℕ) (old new : ShelfCounts) (since : ℕ) (fault : ProgramsFault)
     → bytes + n ≡ FILE_BYTES_MOST → length content ≤ n + 1 → IfTold told name (λ whole. content ≡ take (n + 1) whole)
-    → IsContentFault slot start bytes units number drop keeps place content fault → HasNextCause told name slot start bytes units number drop keeps place old new since fault
-fault-on told name slot start bytes units number drop keeps place n content old new since (Refused fault) room short told_is holds =
+    → IsContentFault slot start bytes units form number drop keeps place content fault → HasNextCause told name slot start bytes units form number drop keeps place old new since fault
+fault-on told name slot start bytes units form number drop keeps place n content old new since (Refused fault) room short told_is holds =
     let f = found told name content n short told_is in
-    record { place_is = holds.0; content = f.0; held = f.1; refused = refused-whole slot start bytes units number drop keeps n content f.0 fault.kind fault.at room f.2 holds.1 }
-fault-on told name slot start bytes units number drop keeps place n content old new since (Failed number') room short told_is holds = absurd holds
-fault-on told name slot start bytes units number drop keeps place n content old new since (Missing number') room short told_is holds = absurd holds
-fault-on told name slot start bytes units number drop keeps place n content old new since OutOfMemory room short told_is holds = tt
+    record { place_is = holds.0; content = f.0; held = f.1; refused = refused-whole slot start bytes units form number drop keeps n content f.0 fault.kind fault.at room f.2 holds.1 }
+fault-on told name slot start bytes units form number drop keeps place n content old new since (Failed number') room short told_is holds = absurd holds
+fault-on told name slot start bytes units form number drop keeps place n content old new since (Missing number') room short told_is holds = absurd holds
+fault-on told name slot start bytes units form number drop keeps place n content old new since OutOfMemory room short told_is holds = tt
 
 -- what refuses the bytes that were read refuses the file
-pub cause-on : (told : Option Files) (name : List ℕ) (slot start bytes units number : ℕ) (drop : List ℕ) (keeps : Program → Type 0) (place n : ℕ) (content front : List ℕ) (old new : ShelfCounts) (since : ℕ)
+pub cause-on : (told : Option Files) (name : List ℕ) (slot start bytes units : ℕ) (form : Form) (number : ℕ) (drop : List ℕ) (keeps : Program → Type 0) (place n : ℕ) (content front : List ℕ) (old new : ShelfCounts) (since : ℕ)
     (result : Result NextProgram ProgramsFault)
     → bytes + n ≡ FILE_BYTES_MOST → length content ≤ n + 1 → IfTold told name (λ whole. content ≡ take (n + 1) whole) → front ≡ content
-    → IfErr result (IsContentFault slot start bytes units number drop keeps place front)
-    → IfErr result (HasNextCause told name slot start bytes units number drop keeps place old new since)
-cause-on told name slot start bytes units number drop keeps place n content front old new since (Ok next) room short told_is same holds = tt
-cause-on told name slot start bytes units number drop keeps place n content front old new since (Err fault) room short told_is same holds =
-    fault-on told name slot start bytes units number drop keeps place n content old new since fault room short told_is
-    (subst (λ (l : List ℕ). IsContentFault slot start bytes units number drop keeps place l fault) same holds)
+    → IfErr result (IsContentFault slot start bytes units form number drop keeps place front)
+    → IfErr result (HasNextCause told name slot start bytes units form number drop keeps place old new since)
+cause-on told name slot start bytes units form number drop keeps place n content front old new since (Ok next) room short told_is same holds = tt
+cause-on told name slot start bytes units form number drop keeps place n content front old new since (Err fault) room short told_is same holds =
+    fault-on told name slot start bytes units form number drop keeps place n content old new since fault room short told_is
+    (subst (λ (l : List ℕ). IsContentFault slot start bytes units form number drop keeps place l fault) same holds)

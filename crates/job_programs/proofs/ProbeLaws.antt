@@ -2,6 +2,7 @@
 use Rattle.std.proofs.Common.{◌≡◌, ℕ, ◌<◌, List, [], Some, sym, subst, ◌∙◌, arith}
 use Rattle.std.specs.FinMap.{get}
 use Rattle.shelf_io.specs.Files.{Files}
+use Rattle.job_report.specs.declared.job.Form.TheVariants.{Ts}
 use Rattle.job_programs.specs.declared.limits.TheConstants.{PROBED_AUDIO_PACKETS_MOST}
 use Rattle.program_reader.specs.declared.program.Program.{Program}
 use Rattle.program_reader.specs.declared.program_fault.SourceKind.{SourceKind}
@@ -17,23 +18,23 @@ use Rattle.job_programs.proofs.FirstLemmas.{same-fault}
 probed-not-refused : OneProgram → NeverBoth → (slot start number : ℕ) (drop content : List ℕ) (program : Program) (kind : SourceKind) (at : ℕ)
     → IsProbed slot start number drop content program → IsProbeRefused slot start number drop content kind at → ⊥
 probed-not-refused one never slot start number drop content program kind at is (refused r) =
-    not-both one never slot start 0 0 number drop (job_keeps (probed_job number drop)) content program kind at
+    not-both one never slot start 0 0 Ts number drop (job_keeps (probed_job number drop)) content program kind at
     (behind-of slot start [] [] (probed_job number drop) content program is.is_program) (refused-behind slot start [] [] (probed_job number drop) content kind at r)
 probed-not-refused one never slot start number drop content program kind at is (many_packets other next many _ _) =
-    let same : other ≡ program = one content number drop start other program next.holds is.is_program.holds in
+    let same : other ≡ program = one Ts content number drop start other program next.holds is.is_program.holds in
     let many' : PROBED_AUDIO_PACKETS_MOST < audio_packets program.audios = subst (λ (p : Program). PROBED_AUDIO_PACKETS_MOST < audio_packets p.audios) same many in
     omega (arith, many', is.few_packets)
 
 one-probe-refusal : OneProgram → OneRefusal → NeverBoth → (slot start number : ℕ) (drop content : List ℕ) (kind kind' : SourceKind) (at at' : ℕ)
     → IsProbeRefused slot start number drop content kind at → IsProbeRefused slot start number drop content kind' at' → (kind ≡ kind') × (at ≡ at')
 one-probe-refusal one only never slot start number drop content kind kind' at at' (refused r) (refused r') =
-    one-refusal only never slot start 0 0 number drop (job_keeps (probed_job number drop)) content kind kind' at at'
+    one-refusal only never slot start 0 0 Ts number drop (job_keeps (probed_job number drop)) content kind kind' at at'
     (refused-behind slot start [] [] (probed_job number drop) content kind at r) (refused-behind slot start [] [] (probed_job number drop) content kind' at' r')
 one-probe-refusal one only never slot start number drop content kind kind' at at' (refused r) (many_packets p next _ _ _) =
-    absurd (not-both one never slot start 0 0 number drop (job_keeps (probed_job number drop)) content p kind at
+    absurd (not-both one never slot start 0 0 Ts number drop (job_keeps (probed_job number drop)) content p kind at
     (behind-of slot start [] [] (probed_job number drop) content p next) (refused-behind slot start [] [] (probed_job number drop) content kind at r))
 one-probe-refusal one only never slot start number drop content kind kind' at at' (many_packets p next _ _ _) (refused r') =
-    absurd (not-both one never slot start 0 0 number drop (job_keeps (probed_job number drop)) content p kind' at'
+    absurd (not-both one never slot start 0 0 Ts number drop (job_keeps (probed_job number drop)) content p kind' at'
     (behind-of slot start [] [] (probed_job number drop) content p next) (refused-behind slot start [] [] (probed_job number drop) content kind' at' r'))
 one-probe-refusal one only never slot start number drop content kind kind' at at' (many_packets _ _ _ k a) (many_packets _ _ _ k' a') = (k ∙ sym k', a ∙ sym a')
 
@@ -47,7 +48,7 @@ pub one-probed-on : OneProgram → (files : Files) (name : List ℕ) (slot start
 one-probed-on one files name slot start number drop p q a b =
     let same = same-content files name b.content a.content b.held a.held in
     let b' = subst (λ (c : List ℕ). IsProbed slot start number drop c q) same b.probed in
-    one a.content number drop start p q a.probed.is_program.holds b'.is_program.holds
+    one Ts a.content number drop start p q a.probed.is_program.holds b'.is_program.holds
 
 pub probed-not-refused-on : OneProgram → NeverBoth → (files : Files) (name : List ℕ) (slot start number : ℕ) (drop : List ℕ) (program : Program) (fault : SourceFault)
     → IsProbedOn (Some files) name slot start number drop program → IsProbeRefusedOn (Some files) name slot start number drop fault → ⊥

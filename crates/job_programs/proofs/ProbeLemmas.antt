@@ -1,6 +1,7 @@
 -- One file that is probed, as the only program of a job.
 use Rattle.std.proofs.Common.{◌≡◌, ℕ, ◌<◌, ◌≤◌, ◌↔◌, ◌⊎◌, Bool, true, false, IsTrue, inl, inr, List, [], Option, arith}
 use Rattle.std.proofs.lemmas.Bool.{cases_order}
+use Rattle.job_report.specs.declared.job.Form.TheVariants.{Ts}
 use Rattle.program_reader.specs.declared.program.Program.{Program}
 use Rattle.program_reader.specs.declared.program_fault.SourceKind.TheVariants.{ProgramLimit}
 use Rattle.shelf_io.specs.Counts.{ShelfCounts}
@@ -23,19 +24,19 @@ abbrev ProbeKeeps : Program → Type 0
 ProbeKeeps program = KeepsShare WEIGHT_DEFAULT DRIFT_DEFAULT COARSER_DEFAULT program
 
 pub probed-on : (told : Option Files) (name : List ℕ) (slot start number : ℕ) (drop : List ℕ) (size : ℕ) (program : Program)
-    → IsNextOn told name slot start 0 0 number drop ProbeKeeps size program → audio_packets program.audios ≤ PROBED_AUDIO_PACKETS_MOST → IsProbedOn told name slot start number drop program
+    → IsNextOn told name slot start 0 0 Ts number drop ProbeKeeps size program → audio_packets program.audios ≤ PROBED_AUDIO_PACKETS_MOST → IsProbedOn told name slot start number drop program
 probed-on told name slot start number drop size program found few =
     record { content = found.content; held = found.held; probed = record { is_program = program-of slot start [] [] (probed_job number drop) found.content program found.next; few_packets = few } }
 
 pub packets-refused : (told : Option Files) (name : List ℕ) (slot start number : ℕ) (drop : List ℕ) (size : ℕ) (program : Program) (fault : SourceFault)
-    → IsNextOn told name slot start 0 0 number drop ProbeKeeps size program → PROBED_AUDIO_PACKETS_MOST < audio_packets program.audios
+    → IsNextOn told name slot start 0 0 Ts number drop ProbeKeeps size program → PROBED_AUDIO_PACKETS_MOST < audio_packets program.audios
     → fault.program ≡ 0 → fault.kind ≡ ProgramLimit → fault.at ≡ 0 → IsProbeRefusedOn told name slot start number drop fault
 packets-refused told name slot start number drop size program fault found many first kind at =
     record { first = first; content = found.content; held = found.held; refused = many_packets program (program-of slot start [] [] (probed_job number drop) found.content program found.next) many kind at }
 
 -- the program isn't read, and for this cause
 pub probe-cause : (told : Option Files) (name : List ℕ) (slot start number : ℕ) (drop : List ℕ) (old new : ShelfCounts) (since : ℕ) (fault : ProgramsFault)
-    → HasNextCause told name slot start 0 0 number drop ProbeKeeps 0 old new since fault → HasProbeCause told name slot start number drop old new since fault
+    → HasNextCause told name slot start 0 0 Ts number drop ProbeKeeps 0 old new since fault → HasProbeCause told name slot start number drop old new since fault
 probe-cause told name slot start number drop old new since (Refused fault) cause =
     record { first = cause.place_is; content = cause.content; held = cause.held; refused = refused (refused-of slot start [] [] (probed_job number drop) cause.content fault.kind fault.at cause.refused) }
 probe-cause told name slot start number drop old new since (Failed place) cause = cause

@@ -7,6 +7,7 @@ use Rattle.std.proofs.lemmas.List.Sums.{sum_by_push}
 use Rattle.shelf_io.specs.Counts.{ShelfCounts}
 use Rattle.shelf_io.specs.Files.{Files}
 use Rattle.shelf_io.proofs.Counted.{rose_later}
+use Rattle.job_report.specs.declared.job.Form.{Form}
 use Rattle.job_report.specs.declared.job.Job.{Job}
 use Rattle.job_report.specs.declared.job.ProgramJob.{ProgramJob}
 use Rattle.program_reader.specs.declared.limits.TheConstants.{FILE_BYTES_MOST, UNITS_MOST}
@@ -56,7 +57,7 @@ told-through (Some files) start jobs contents programs job after content hold he
 
 are-more : (slot start : ℕ) (jobs : List ProgramJob) (contents : List (List ℕ)) (programs : List Program) (job : ProgramJob) (content : List ℕ) (program : Program)
     → AreProgramsOf slot start jobs contents programs
-    → IsProgramBehind slot start (bytes_of_files contents) (units_of_programs programs) job.program job.drop.items (job_keeps job) content program
+    → IsProgramBehind slot start (bytes_of_files contents) (units_of_programs programs) job.form job.program job.drop.items (job_keeps job) content program
     → AreProgramsOf slot start (jobs ++ job ∷ []) (contents ++ content ∷ []) (programs ++ program ∷ [])
 are-more slot start jobs contents programs job content program are next = record {
   hold = hold-more start jobs contents programs job content program are.hold (record { holds = next.holds; near = next.near });
@@ -65,15 +66,15 @@ are-more slot start jobs contents programs job content program are next = record
   within = All-push (KeepsTime slot) programs program are.within next.within;
 }
 
-next-at : (slot start b u b' u' number : ℕ) (drop : List ℕ) (keeps : Program → Type 0) (content : List ℕ) (program : Program) → b ≡ b' → u ≡ u'
-    → IsProgramBehind slot start b u number drop keeps content program → IsProgramBehind slot start b' u' number drop keeps content program
-next-at slot start b u b' u' number drop keeps content program eb eu next =
-    subst (λ (n : ℕ). IsProgramBehind slot start b' n number drop keeps content program) eu (subst (λ (n : ℕ). IsProgramBehind slot start n u number drop keeps content program) eb next)
+next-at : (slot start b u b' u' : ℕ) (form : Form) (number : ℕ) (drop : List ℕ) (keeps : Program → Type 0) (content : List ℕ) (program : Program) → b ≡ b' → u ≡ u'
+    → IsProgramBehind slot start b u form number drop keeps content program → IsProgramBehind slot start b' u' form number drop keeps content program
+next-at slot start b u b' u' form number drop keeps content program eb eu next =
+    subst (λ (n : ℕ). IsProgramBehind slot start b' n form number drop keeps content program) eu (subst (λ (n : ℕ). IsProgramBehind slot start n u form number drop keeps content program) eb next)
 
-refused-at : (slot start b u b' u' number : ℕ) (drop : List ℕ) (keeps : Program → Type 0) (content : List ℕ) (kind : SourceKind) (at : ℕ) → b ≡ b' → u ≡ u'
-    → IsRefusedBehind slot start b u number drop keeps content kind at → IsRefusedBehind slot start b' u' number drop keeps content kind at
-refused-at slot start b u b' u' number drop keeps content kind at eb eu refused =
-    subst (λ (n : ℕ). IsRefusedBehind slot start b' n number drop keeps content kind at) eu (subst (λ (n : ℕ). IsRefusedBehind slot start n u number drop keeps content kind at) eb refused)
+refused-at : (slot start b u b' u' : ℕ) (form : Form) (number : ℕ) (drop : List ℕ) (keeps : Program → Type 0) (content : List ℕ) (kind : SourceKind) (at : ℕ) → b ≡ b' → u ≡ u'
+    → IsRefusedBehind slot start b u form number drop keeps content kind at → IsRefusedBehind slot start b' u' form number drop keeps content kind at
+refused-at slot start b u b' u' form number drop keeps content kind at eb eu refused =
+    subst (λ (n : ℕ). IsRefusedBehind slot start b' n form number drop keeps content kind at) eu (subst (λ (n : ℕ). IsRefusedBehind slot start n u form number drop keeps content kind at) eb refused)
 
 -- none is read at first
 pub read-none : (told : Option Files) (slot start : ℕ) → ReadSoFar told slot start [] [] 0 0
@@ -91,13 +92,13 @@ read-none told slot start = record {
 
 one-more : (told : Option Files) (slot start : ℕ) (jobs : List ProgramJob) (job : ProgramJob) (programs : List Program) (bytes units size : ℕ) (program : Program)
     → ReadSoFar told slot start jobs programs bytes units
-    → IsNextOn told job.file slot start bytes units job.program job.drop.items (job_keeps job) size program
+    → IsNextOn told job.file slot start bytes units job.form job.program job.drop.items (job_keeps job) size program
     → ReadSoFar told slot start (jobs ++ job ∷ []) (programs ++ program ∷ []) (bytes + size) (units + length program.units)
 one-more told slot start jobs job programs bytes units size program read next = record {
   contents = read.contents ++ next.content ∷ [];
   held = told-through told start jobs read.contents programs job [] next.content read.are.hold read.held next.held;
   are = are-more slot start jobs read.contents programs job next.content program read.are
-      (next-at slot start bytes units (bytes_of_files read.contents) (units_of_programs programs) job.program job.drop.items (job_keeps job) next.content program read.bytes_are read.units_are next.next);
+      (next-at slot start bytes units (bytes_of_files read.contents) (units_of_programs programs) job.form job.program job.drop.items (job_keeps job) next.content program read.bytes_are read.units_are next.next);
   bytes_are = let a = read.bytes_are in let b = next.size_is in let c = sum_by_push length read.contents next.content in omega arith;
   units_are = let a = read.units_are in let c = sum_by_push (λ (p : Program). length p.units) programs program in omega arith;
 }
@@ -105,7 +106,7 @@ one-more told slot start jobs job programs bytes units size program read next = 
 -- the next program is read
 pub read-more : (told : Option Files) (slot start : ℕ) (jobs : List ProgramJob) (i : ℕ) (job : ProgramJob) (programs : List Program) (bytes units size : ℕ) (program : Program)
     → i < length jobs → job ≡ get_or jobs i job → ReadSoFar told slot start (take i jobs) programs bytes units
-    → IsNextOn told job.file slot start bytes units job.program job.drop.items (job_keeps job) size program
+    → IsNextOn told job.file slot start bytes units job.form job.program job.drop.items (job_keeps job) size program
     → ReadSoFar told slot start (take (i + 1) jobs) (programs ++ program ∷ []) (bytes + size) (units + length program.units)
 read-more told slot start jobs i job programs bytes units size program within is read next =
     let front : take (i + 1) jobs ≡ take i jobs ++ job ∷ [] = take_more jobs i job within ∙ ap (λ (j : ProgramJob). take i jobs ++ j ∷ []) (sym is) in
@@ -125,7 +126,7 @@ split-at jobs i job within is =
 
 refused-on : (told : Option Files) (job : Job) (i : ℕ) (wanted : ProgramJob) (programs : List Program) (bytes units : ℕ) (fault : SourceFault)
     → i < length job.programs → wanted ≡ get_or job.programs i wanted → ReadSoFar told job.slot job.start (take i job.programs) programs bytes units
-    → IsNextRefusedOn told wanted.file job.slot job.start bytes units wanted.program wanted.drop.items (job_keeps wanted) i fault → IsRefusedOn told job fault
+    → IsNextRefusedOn told wanted.file job.slot job.start bytes units wanted.form wanted.program wanted.drop.items (job_keeps wanted) i fault → IsRefusedOn told job fault
 refused-on told job i wanted programs bytes units fault within is read refused =
     let split = split-at job.programs i wanted within is in
     record {
@@ -145,7 +146,7 @@ refused-on told job i wanted programs bytes units fault within is read refused =
         programs_are = next-of job.slot job.start (take i job.programs) read.contents programs read.are;
         number = refused.place_is ∙ sym (length-take-le i job.programs (omega arith));
         refusal = refused-of job.slot job.start read.contents programs wanted refused.content fault.kind fault.at
-            (refused-at job.slot job.start bytes units (bytes_of_files read.contents) (units_of_programs programs) wanted.program wanted.drop.items (job_keeps wanted) refused.content fault.kind fault.at
+            (refused-at job.slot job.start bytes units (bytes_of_files read.contents) (units_of_programs programs) wanted.form wanted.program wanted.drop.items (job_keeps wanted) refused.content fault.kind fault.at
             read.bytes_are read.units_are refused.refused);
       };
     }
@@ -168,7 +169,7 @@ stops-at told job i wanted programs bytes units number within is read number_is 
 pub not-read : (told : Option Files) (job : Job) (i : ℕ) (wanted : ProgramJob) (programs : List Program) (bytes units : ℕ) (old middle new : ShelfCounts) (since : ℕ) (fault : ProgramsFault)
     → i < length job.programs → wanted ≡ get_or job.programs i wanted → ReadSoFar told job.slot job.start (take i job.programs) programs bytes units
     → CountReads old middle → CountReads middle new
-    → HasNextCause told wanted.file job.slot job.start bytes units wanted.program wanted.drop.items (job_keeps wanted) i middle new since fault
+    → HasNextCause told wanted.file job.slot job.start bytes units wanted.form wanted.program wanted.drop.items (job_keeps wanted) i middle new since fault
     → HasReadCause told job old new since fault
 not-read told job i wanted programs bytes units old middle new since (Refused fault) within is read before after cause =
     refused-on told job i wanted programs bytes units fault within is read cause
@@ -191,25 +192,25 @@ not-read told job i wanted programs bytes units old middle new since OutOfMemory
 pub went-on : (told told' : Option Files) (slot start : ℕ) (jobs : List ProgramJob) (i : ℕ) (job : ProgramJob) (programs : List Program) (bytes units size : ℕ) (program : Program)
     (name drop coarser : List ℕ) → told' ≡ told → name ≡ job.file → drop ≡ job.drop.items → coarser ≡ job.coarser.items
     → i < length jobs → job ≡ get_or jobs i job → ReadSoFar told slot start (take i jobs) programs bytes units
-    → IsNextOn told' name slot start bytes units job.program drop (KeepsShare job.weight job.drift coarser) size program
+    → IsNextOn told' name slot start bytes units job.form job.program drop (KeepsShare job.weight job.drift coarser) size program
     → ReadSoFar told slot start (take (i + 1) jobs) (programs ++ program ∷ []) (bytes + size) (units + length program.units)
 went-on told told' slot start jobs i job programs bytes units size program name drop coarser et en ed ec within is read next =
-    let n1 = subst (λ (t : Option Files). IsNextOn t name slot start bytes units job.program drop (KeepsShare job.weight job.drift coarser) size program) et next in
-    let n2 = subst (λ (n : List ℕ). IsNextOn told n slot start bytes units job.program drop (KeepsShare job.weight job.drift coarser) size program) en n1 in
-    let n3 = subst (λ (d : List ℕ). IsNextOn told job.file slot start bytes units job.program d (KeepsShare job.weight job.drift coarser) size program) ed n2 in
-    let n4 = subst (λ (c : List ℕ). IsNextOn told job.file slot start bytes units job.program job.drop.items (KeepsShare job.weight job.drift c) size program) ec n3 in
+    let n1 = subst (λ (t : Option Files). IsNextOn t name slot start bytes units job.form job.program drop (KeepsShare job.weight job.drift coarser) size program) et next in
+    let n2 = subst (λ (n : List ℕ). IsNextOn told n slot start bytes units job.form job.program drop (KeepsShare job.weight job.drift coarser) size program) en n1 in
+    let n3 = subst (λ (d : List ℕ). IsNextOn told job.file slot start bytes units job.form job.program d (KeepsShare job.weight job.drift coarser) size program) ed n2 in
+    let n4 = subst (λ (c : List ℕ). IsNextOn told job.file slot start bytes units job.form job.program job.drop.items (KeepsShare job.weight job.drift c) size program) ec n3 in
     read-more told slot start jobs i job programs bytes units size program within is read n4
 
 pub stopped : (told told' : Option Files) (job : Job) (i : ℕ) (wanted : ProgramJob) (programs : List Program) (bytes units place : ℕ) (name drop coarser : List ℕ)
     (old middle new : ShelfCounts) (since : ℕ) (fault : ProgramsFault) → told' ≡ told → name ≡ wanted.file → drop ≡ wanted.drop.items → coarser ≡ wanted.coarser.items → place ≡ i
     → i < length job.programs → wanted ≡ get_or job.programs i wanted → ReadSoFar told job.slot job.start (take i job.programs) programs bytes units
     → CountReads old middle → CountReads middle new
-    → HasNextCause told' name job.slot job.start bytes units wanted.program drop (KeepsShare wanted.weight wanted.drift coarser) place middle new since fault
+    → HasNextCause told' name job.slot job.start bytes units wanted.form wanted.program drop (KeepsShare wanted.weight wanted.drift coarser) place middle new since fault
     → HasReadCause told job old new since fault
 stopped told told' job i wanted programs bytes units place name drop coarser old middle new since fault et en ed ec ep within is read before after cause =
-    let c1 = subst (λ (t : Option Files). HasNextCause t name job.slot job.start bytes units wanted.program drop (KeepsShare wanted.weight wanted.drift coarser) place middle new since fault) et cause in
-    let c2 = subst (λ (n : List ℕ). HasNextCause told n job.slot job.start bytes units wanted.program drop (KeepsShare wanted.weight wanted.drift coarser) place middle new since fault) en c1 in
-    let c3 = subst (λ (d : List ℕ). HasNextCause told wanted.file job.slot job.start bytes units wanted.program d (KeepsShare wanted.weight wanted.drift coarser) place middle new since fault) ed c2 in
-    let c4 = subst (λ (p : ℕ). HasNextCause told wanted.file job.slot job.start bytes units wanted.program wanted.drop.items (KeepsShare wanted.weight wanted.drift coarser) p middle new since fault) ep c3 in
-    let c5 = subst (λ (c : List ℕ). HasNextCause told wanted.file job.slot job.start bytes units wanted.program wanted.drop.items (KeepsShare wanted.weight wanted.drift c) i middle new since fault) ec c4 in
+    let c1 = subst (λ (t : Option Files). HasNextCause t name job.slot job.start bytes units wanted.form wanted.program drop (KeepsShare wanted.weight wanted.drift coarser) place middle new since fault) et cause in
+    let c2 = subst (λ (n : List ℕ). HasNextCause told n job.slot job.start bytes units wanted.form wanted.program drop (KeepsShare wanted.weight wanted.drift coarser) place middle new since fault) en c1 in
+    let c3 = subst (λ (d : List ℕ). HasNextCause told wanted.file job.slot job.start bytes units wanted.form wanted.program d (KeepsShare wanted.weight wanted.drift coarser) place middle new since fault) ed c2 in
+    let c4 = subst (λ (p : ℕ). HasNextCause told wanted.file job.slot job.start bytes units wanted.form wanted.program wanted.drop.items (KeepsShare wanted.weight wanted.drift coarser) p middle new since fault) ep c3 in
+    let c5 = subst (λ (c : List ℕ). HasNextCause told wanted.file job.slot job.start bytes units wanted.form wanted.program wanted.drop.items (KeepsShare wanted.weight wanted.drift c) i middle new since fault) ec c4 in
     not-read told job i wanted programs bytes units old middle new since fault within is read before after c5

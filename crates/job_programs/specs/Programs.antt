@@ -37,7 +37,7 @@ pub record IsWithinTime (slot : ℕ) (program : Program) : Type 0 where
 
 -- the content of a file holds this program of a job, by itself
 abbrev pub HoldsProgram : (start : ℕ) → ProgramJob → (content : List ℕ) → Program → Type 0
-HoldsProgram start job content program = IsProgramOfFile content job.program job.drop.items start program
+HoldsProgram start job content program = IsProgramOfFile job.form content job.program job.drop.items start program
 
 -- The content of a file holds this program of a job, with the files and programs before it the limits that they share are kept, and it takes
 -- no more of a table than its share.
@@ -53,7 +53,7 @@ pub record IsNextProgram (slot start : ℕ) (contents : List (List ℕ)) (progra
 pub data IsNextRefused (slot start : ℕ) (contents : List (List ℕ)) (programs : List Program) (job : ProgramJob) (content : List ℕ) (kind : SourceKind) (at : ℕ) : Type 0 where
   many_bytes : FILE_BYTES_MOST < bytes_of_files contents + length content → kind ≡ ProgramLimit → at ≡ 0
       → IsNextRefused slot start contents programs job content kind at
-  file : bytes_of_files contents + length content ≤ FILE_BYTES_MOST → IsProgramRefused content job.program job.drop.items (Refused kind at)
+  file : bytes_of_files contents + length content ≤ FILE_BYTES_MOST → IsProgramRefused job.form content job.program job.drop.items (Refused kind at)
       → IsNextRefused slot start contents programs job content kind at
   many_units : (program : Program) → bytes_of_files contents + length content ≤ FILE_BYTES_MOST → HoldsProgram start job content program
       → UNITS_MOST < units_of_programs programs + length program.units → kind ≡ ProgramLimit → at ≡ 0

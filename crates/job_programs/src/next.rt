@@ -16,6 +16,7 @@ use crate::limits::UNITS_OF_ANY_DISTORTION;
 use crate::share::keeps_share;
 use crate::source_fault::{ProgramsFault, SourceFault};
 use crate::times::is_within_time;
+use job_report::Form;
 use list_types::ListOf;
 use program_reader::limits::{FILE_BYTES_MOST, UNITS_MOST};
 use program_reader::{
@@ -31,8 +32,9 @@ pub(crate) struct Wanted<'a> {
     /// Its place in the job, from 0.
     pub place: u8,
     pub file: &'a str,
+    pub form: Form,
     pub number: u16,
-    /// The PIDs of audio streams that aren't carried.
+    /// The PIDs, or the stream ids of a program stream, of audio streams that aren't carried.
     pub drop: &'a [u16],
     /// When its earliest time is due, in ticks.
     pub start: u64,
@@ -74,10 +76,10 @@ pub(crate) fn read_next<K: Shelf>(
     requires drift { wanted.now.drift ≤ DRIFT_MOST }
     requires sized { 0 < wanted.now.drift → wanted.now.is_sized ≡ true }
     ensures next { IfOk result (λ next. IsNextOn (K.files shelf.old) wanted.now.file.now wanted.now.slot wanted.now.start wanted.now.bytes wanted.now.units
-        wanted.now.number wanted.now.drop.now (KeepsShare wanted.now.weight wanted.now.drift wanted.now.coarser.now) next.size next.program) }
+        wanted.now.form wanted.now.number wanted.now.drop.now (KeepsShare wanted.now.weight wanted.now.drift wanted.now.coarser.now) next.size next.program) }
     ensures sizes { IfOk result (λ next. wanted.now.is_sized ≡ true → AreProgramSizes next.program wanted.now.coarser.now next.sizes) }
     ensures cause { IfErr result (HasNextCause (K.files shelf.old) wanted.now.file.now wanted.now.slot wanted.now.start wanted.now.bytes wanted.now.units
-        wanted.now.number wanted.now.drop.now (KeepsShare wanted.now.weight wanted.now.drift wanted.now.coarser.now) wanted.now.place (K.counts shelf.old) (K.counts shelf.new) (K.since_fault shelf.new)) }
+        wanted.now.form wanted.now.number wanted.now.drop.now (KeepsShare wanted.now.weight wanted.now.drift wanted.now.coarser.now) wanted.now.place (K.counts shelf.old) (K.counts shelf.new) (K.since_fault shelf.new)) }
 
     ensures files { K.files shelf.new ≡ K.files shelf.old }
     ensures asked { AsksUpTo wanted.now.file.now (FILE_BYTES_MOST + 1) (K.asked shelf.old) (K.asked shelf.new) }
@@ -108,10 +110,10 @@ fn from_content(
     requires drift { wanted.now.drift ≤ DRIFT_MOST }
     requires sized { 0 < wanted.now.drift → wanted.now.is_sized ≡ true }
     ensures next { IfOk result (λ next. (next.size ≡ length content.now) × IsProgramBehind wanted.now.slot wanted.now.start wanted.now.bytes wanted.now.units
-        wanted.now.number wanted.now.drop.now (KeepsShare wanted.now.weight wanted.now.drift wanted.now.coarser.now) content.now next.program) }
+        wanted.now.form wanted.now.number wanted.now.drop.now (KeepsShare wanted.now.weight wanted.now.drift wanted.now.coarser.now) content.now next.program) }
     ensures sizes { IfOk result (λ next. wanted.now.is_sized ≡ true → AreProgramSizes next.program wanted.now.coarser.now next.sizes) }
     ensures fault { IfErr result (IsContentFault wanted.now.slot wanted.now.start wanted.now.bytes wanted.now.units
-        wanted.now.number wanted.now.drop.now (KeepsShare wanted.now.weight wanted.now.drift wanted.now.coarser.now) wanted.now.place content.now) }
+        wanted.now.form wanted.now.number wanted.now.drop.now (KeepsShare wanted.now.weight wanted.now.drift wanted.now.coarser.now) wanted.now.place content.now) }
 {
     match next_program(alloc, content, wanted) {
         Ok(sized) => Ok(NextProgram {
@@ -143,8 +145,8 @@ fn next_program(
     requires drift { wanted.now.drift ≤ DRIFT_MOST }
     requires sized { 0 < wanted.now.drift → wanted.now.is_sized ≡ true }
     ensures program { MatchResult result
-        (λ next. IsProgramBehind wanted.now.slot wanted.now.start wanted.now.bytes wanted.now.units wanted.now.number wanted.now.drop.now (KeepsShare wanted.now.weight wanted.now.drift wanted.now.coarser.now) content.now next.program)
-        (IsNextFault wanted.now.slot wanted.now.start wanted.now.bytes wanted.now.units wanted.now.number wanted.now.drop.now (KeepsShare wanted.now.weight wanted.now.drift wanted.now.coarser.now) content.now) }
+        (λ next. IsProgramBehind wanted.now.slot wanted.now.start wanted.now.bytes wanted.now.units wanted.now.form wanted.now.number wanted.now.drop.now (KeepsShare wanted.now.weight wanted.now.drift wanted.now.coarser.now) content.now next.program)
+        (IsNextFault wanted.now.slot wanted.now.start wanted.now.bytes wanted.now.units wanted.now.form wanted.now.number wanted.now.drop.now (KeepsShare wanted.now.weight wanted.now.drift wanted.now.coarser.now) content.now) }
     ensures sizes { IfOk result (λ next. wanted.now.is_sized ≡ true → AreProgramSizes next.program wanted.now.coarser.now next.sizes) }
 {
     if content.len() > FILE_BYTES_MOST - wanted.bytes {
@@ -171,8 +173,8 @@ fn wanted_program(
 ) -> Result<SizedProgram, ProgramFault>
     requires start { wanted.now.start ≤ START_MOST }
     requires coarser { length wanted.now.coarser.now < VERSIONS_MOST }
-    ensures program { MatchResult result (λ sized. IsProgramOfFile content.now wanted.now.number wanted.now.drop.now wanted.now.start sized.program)
-        (IsProgramRefused content.now wanted.now.number wanted.now.drop.now) }
+    ensures program { MatchResult result (λ sized. IsProgramOfFile wanted.now.form content.now wanted.now.number wanted.now.drop.now wanted.now.start sized.program)
+        (IsProgramRefused wanted.now.form content.now wanted.now.number wanted.now.drop.now) }
     ensures sizes { IfOk result (λ sized. wanted.now.is_sized ≡ true → AreProgramSizes sized.program wanted.now.coarser.now sized.sizes) }
     ensures many { IfOk result (λ sized. UNITS_OF_ANY_DISTORTION < length sized.program.units → AreProgramSizes sized.program wanted.now.coarser.now sized.sizes) }
 {
@@ -182,7 +184,14 @@ fn wanted_program(
             Err(fault) => Err(fault),
         };
     }
-    let program = match read_program(alloc, content, wanted.number, wanted.drop, wanted.start) {
+    let program = match read_program(
+        alloc,
+        content,
+        wanted.form,
+        wanted.number,
+        wanted.drop,
+        wanted.start,
+    ) {
         Ok(program) => program,
         Err(fault) => return Err(fault),
     };
@@ -206,13 +215,14 @@ fn sized_program(
 ) -> Result<SizedProgram, ProgramFault>
     requires start { wanted.now.start ≤ START_MOST }
     requires coarser { length wanted.now.coarser.now < VERSIONS_MOST }
-    ensures program { MatchResult result (λ sized. IsProgramOfFile content.now wanted.now.number wanted.now.drop.now wanted.now.start sized.program)
-        (IsProgramRefused content.now wanted.now.number wanted.now.drop.now) }
+    ensures program { MatchResult result (λ sized. IsProgramOfFile wanted.now.form content.now wanted.now.number wanted.now.drop.now wanted.now.start sized.program)
+        (IsProgramRefused wanted.now.form content.now wanted.now.number wanted.now.drop.now) }
     ensures sizes { IfOk result (λ sized. AreProgramSizes sized.program wanted.now.coarser.now sized.sizes) }
 {
     match read_sized_program(
         alloc,
         content,
+        wanted.form,
         wanted.number,
         wanted.drop,
         wanted.start,

@@ -9,12 +9,13 @@ use crate::limits::PROBED_AUDIO_PACKETS_MOST;
 use crate::next::{Wanted, read_next};
 use crate::share::has_few_packets;
 use crate::source_fault::{ProgramsFault, SourceFault};
+use job_report::Form;
 use job_report::limits::{COARSER_DEFAULT, DRIFT_DEFAULT, WEIGHT_DEFAULT};
 use program_reader::{Program, SourceKind};
 use shelf_io::Shelf;
 use std::alloc::Global;
 
-/// The program of this number in a file, without the audio streams of the PIDs in `drop`, its earliest time due at `start`
+/// The program of this number in a transport stream, without the audio streams of the PIDs in `drop`, its earliest time due at `start`
 /// (in ticks), for a stream of such slots, as the one program of a job whose table's text has room for it; or why it isn't read, in
 /// the words of the first program of a job. No file is changed.
 pub fn read_one<K: Shelf>(
@@ -42,6 +43,7 @@ pub fn read_one<K: Shelf>(
         &Wanted {
             place: 0,
             file: name,
+            form: Form::Ts,
             number,
             drop,
             start,

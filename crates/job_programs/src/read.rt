@@ -93,6 +93,7 @@ fn read_each<K: Shelf>(
             &Wanted {
                 place,
                 file: wanted.file.as_str(),
+                form: wanted.form,
                 number: wanted.program,
                 drop: wanted.drop.as_slice(),
                 start: job.start,

@@ -8,6 +8,7 @@ use Rattle.std.proofs.lemmas.Str.{is_utf8-from_IsUtf8}
 use Rattle.toml.specs.Data.{string, integer, array, table, no_items, item, Members, no_members, member}
 use Rattle.toml.specs.Parse.{parse_document}
 use Rattle.toml.proofs.OnLiterals.{toml_on_literals}
+use Rattle.job_report.specs.declared.job.Form.TheVariants.{Ts}
 use Rattle.job_report.specs.declared.job.ProgramJob.{ProgramJob}
 use Rattle.job_report.specs.Job.{IsJobOf}
 use Rattle.job_report.specs.JobText.{HasAnswer, NoDocument, Refused}
@@ -174,6 +175,25 @@ negative_pid : first_of (job ++ codes "drop = [-1]\n") ≡ Some (Some (OfLimit (
 unfolding toml_on_literals refusals_of_field refusals_of_names place_of_program digits
 negative_pid = refl
 
+-- a program stream
+program_stream : first_of (job ++ codes "form = \"ps\"\n") ≡ Some None
+unfolding toml_on_literals refusals_of_field refusals_of_names place_of_program digits
+program_stream = refl
+
+-- another text is out of range, as is one in capitals
+other_form : first_of (job ++ codes "form = \"PS\"\n") ≡ Some (Some (OfLimit (codes "program[0].form")))
+unfolding toml_on_literals refusals_of_field refusals_of_names place_of_program digits
+other_form = refl
+
+-- a number is of another type, and goes behind what is wrong with `drop`
+number_for_form : first_of (job ++ codes "form = 1\n") ≡ Some (Some (OfField (codes "program[0].form")))
+unfolding toml_on_literals refusals_of_field refusals_of_names place_of_program digits
+number_for_form = refl
+
+drop_before_form : first_of (job ++ codes "form = 1\ndrop = [-1]\n") ≡ Some (Some (OfLimit (codes "program[0].drop")))
+unfolding toml_on_literals refusals_of_field refusals_of_names place_of_program digits
+drop_before_form = refl
+
 -- two programs of one number
 same_numbers : first_of (job ++ codes "[[program]]\nfile = \"b.ts\"\nprogram = 2\nnumber = 1\n") ≡ Some (Some (OfLimit (codes "program[1].number")))
 unfolding toml_on_literals refusals_of_field refusals_of_names place_of_program digits
@@ -236,7 +256,7 @@ unfolding toml_on_literals
 stated_text = refl
 
 abbrev stated_program : ProgramJob
-stated_program = record { file = codes "a.ts"; program = 1; number = 7; weight = 1; coarser = record { items = 17 ∷ [] }; drift = 0; drop = record { items = [] } }
+stated_program = record { file = codes "a.ts"; program = 1; number = 7; weight = 1; coarser = record { items = 17 ∷ [] }; drift = 0; drop = record { items = [] }; form = Ts }
 
 -- and the job that it states
 stated_job : IsJobOf document (record { slot = 4000; start = 13500000; stream_id = 1; nodes = 1000; evaluations = 1000; programs = stated_program ∷ [] })
@@ -246,7 +266,7 @@ stated_job = record {
   stream_id = refl;
   nodes = refl;
   evaluations = refl;
-  programs = (record { file = refl; program = refl; number = refl; weight = refl; coarser = refl; drift = refl; drop = refl }, tt);
+  programs = (record { file = refl; program = refl; number = refl; weight = refl; coarser = refl; drift = refl; drop = refl; form = refl }, tt);
 }
 
 -- the file of the second program is the third one that the command names

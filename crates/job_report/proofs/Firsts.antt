@@ -38,19 +38,26 @@ tells_sixth_of a b c d e f rest n fault na nb nc nd ne h =
     tells_here (a ++ (b ++ (c ++ (d ++ (e ++ (f ++ rest)))))) n fault (
     tells_past a _ fault na (tells_past b _ fault nb (tells_past c _ fault nc (tells_past d _ fault nd (tells_past e _ fault ne (tells_here f rest fault h))))))
 
--- the seventh of fields is wrong
-pub tells_seventh : (a b c d e f g n : List FieldRefusal) (fault : JobFault) → a ≡ [] → b ≡ [] → c ≡ [] → d ≡ [] → e ≡ [] → f ≡ [] → TellsFirst g fault
-    → TellsFirst ((a ++ (b ++ (c ++ (d ++ (e ++ (f ++ (g ++ []))))))) ++ n) fault
-tells_seventh a b c d e f g n fault na nb nc nd ne nf h =
-    tells_here (a ++ (b ++ (c ++ (d ++ (e ++ (f ++ (g ++ []))))))) n fault (tells_past a _ fault na (tells_past b _ fault nb (tells_past c _ fault nc
-    (tells_past d _ fault nd (tells_past e _ fault ne (tells_past f _ fault nf (tells_here g [] fault h)))))))
+-- the seventh of fields is wrong, of which more follow
+pub tells_seventh_of : (a b c d e f g rest n : List FieldRefusal) (fault : JobFault) → a ≡ [] → b ≡ [] → c ≡ [] → d ≡ [] → e ≡ [] → f ≡ [] → TellsFirst g fault
+    → TellsFirst ((a ++ (b ++ (c ++ (d ++ (e ++ (f ++ (g ++ rest))))))) ++ n) fault
+tells_seventh_of a b c d e f g rest n fault na nb nc nd ne nf h =
+    tells_here (a ++ (b ++ (c ++ (d ++ (e ++ (f ++ (g ++ rest))))))) n fault (tells_past a _ fault na (tells_past b _ fault nb (tells_past c _ fault nc
+    (tells_past d _ fault nd (tells_past e _ fault ne (tells_past f _ fault nf (tells_here g rest fault h)))))))
 
--- seven fields are right, and a name is wrong
-pub tells_name_behind_seven : (a b c d e f g n : List FieldRefusal) (fault : JobFault) → a ≡ [] → b ≡ [] → c ≡ [] → d ≡ [] → e ≡ [] → f ≡ [] → g ≡ [] → TellsFirst n fault
-    → TellsFirst ((a ++ (b ++ (c ++ (d ++ (e ++ (f ++ (g ++ []))))))) ++ n) fault
-tells_name_behind_seven a b c d e f g n fault na nb nc nd ne nf ng h =
-    let none : a ++ (b ++ (c ++ (d ++ (e ++ (f ++ (g ++ [])))))) ≡ [] = rw (na, nb, nc, nd, ne, nf, ng) refl in
-    tells_past _ n fault none h
+-- the eighth of fields is wrong
+pub tells_eighth : (a b c d e f g h n : List FieldRefusal) (fault : JobFault) → a ≡ [] → b ≡ [] → c ≡ [] → d ≡ [] → e ≡ [] → f ≡ [] → g ≡ [] → TellsFirst h fault
+    → TellsFirst ((a ++ (b ++ (c ++ (d ++ (e ++ (f ++ (g ++ (h ++ [])))))))) ++ n) fault
+tells_eighth a b c d e f g h n fault na nb nc nd ne nf ng tells =
+    tells_here (a ++ (b ++ (c ++ (d ++ (e ++ (f ++ (g ++ (h ++ [])))))))) n fault (tells_past a _ fault na (tells_past b _ fault nb (tells_past c _ fault nc
+    (tells_past d _ fault nd (tells_past e _ fault ne (tells_past f _ fault nf (tells_past g _ fault ng (tells_here h [] fault tells))))))))
+
+-- eight fields are right, and a name is wrong
+pub tells_name_behind_eight : (a b c d e f g h n : List FieldRefusal) (fault : JobFault) → a ≡ [] → b ≡ [] → c ≡ [] → d ≡ [] → e ≡ [] → f ≡ [] → g ≡ [] → h ≡ []
+    → TellsFirst n fault → TellsFirst ((a ++ (b ++ (c ++ (d ++ (e ++ (f ++ (g ++ (h ++ [])))))))) ++ n) fault
+tells_name_behind_eight a b c d e f g h n fault na nb nc nd ne nf ng nh tells =
+    let none : a ++ (b ++ (c ++ (d ++ (e ++ (f ++ (g ++ (h ++ []))))))) ≡ [] = rw (na, nb, nc, nd, ne, nf, ng, nh) refl in
+    tells_past _ n fault none tells
 
 -- the fields are right, and a name is wrong
 pub tells_name : (a b c d e f n : List FieldRefusal) (fault : JobFault) → a ≡ [] → b ≡ [] → c ≡ [] → d ≡ [] → e ≡ [] → f ≡ [] → TellsFirst n fault

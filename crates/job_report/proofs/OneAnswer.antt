@@ -4,9 +4,11 @@ use Rattle.std.proofs.lemmas.Option.{same_Some, none-some}
 use Rattle.std.specs.Prelude.{IfOk, IfErr}
 use Rattle.toml.specs.Data.{Data, string, Members}
 use Rattle.job_report.specs.declared.job.Job.{Job as JobValue}
+use Rattle.job_report.specs.declared.job.Form.{Form}
+use Rattle.job_report.specs.declared.job.Form.TheVariants.{Ts, Ps}
 use Rattle.job_report.specs.declared.job.ProgramJob.{ProgramJob}
 use Rattle.job_report.specs.Job.{integer_of, array_of, StatesProgram, AreProgramsOf, IsJobOf}
-use Rattle.job_report.specs.Field.{natural_of, values_in}
+use Rattle.job_report.specs.Field.{natural_of, values_in, form_text}
 use Rattle.job_report.specs.JobText.{IsDocument, SpellsJob, IsRefusedDocument, JobAnswer, Spelled, NoDocument, Refused, HasAnswer, IsJobFaultOf, Gives}
 use Rattle.job_report.specs.declared.fault.JobFault.{JobFault}
 use Rattle.job_report.specs.declared.fault.JobFault.TheVariants.{JobSyntax, JobField, JobLimit, OutOfMemory}
@@ -35,11 +37,22 @@ one_text : (s t : List ℕ) → string s ≡ string t → s ≡ t
 unfolding text_of
 one_text s t e = ap text_of e
 
+first_code : List ℕ → ℕ
+first_code [] = 0
+first_code (n ∷ text) = n
+
+one_form : (f g : Form) → form_text f ≡ form_text g → f ≡ g
+unfolding first_code
+one_form Ts Ts e = refl
+one_form Ps Ps e = refl
+one_form Ts Ps e = absurd (let n : 116 ≡ 112 = ap first_code e in omega (arith, n))
+one_form Ps Ts e = absurd (let n : 112 ≡ 116 = ap first_code e in omega (arith, n))
+
 -- ---- one program and one job
 
 same_program : (p q : ProgramJob) → p.file ≡ q.file → p.program ≡ q.program → p.number ≡ q.number → p.weight ≡ q.weight
-    → p.coarser.items ≡ q.coarser.items → p.drift ≡ q.drift → p.drop.items ≡ q.drop.items → p ≡ q
-same_program p q file program number weight coarser drift drop = λ i. record {
+    → p.coarser.items ≡ q.coarser.items → p.drift ≡ q.drift → p.drop.items ≡ q.drop.items → p.form ≡ q.form → p ≡ q
+same_program p q file program number weight coarser drift drop form = λ i. record {
   file = file i;
   program = program i;
   number = number i;
@@ -47,6 +60,7 @@ same_program p q file program number weight coarser drift drop = λ i. record {
   coarser = record { items = coarser i };
   drift = drift i;
   drop = record { items = drop i };
+  form = form i;
 }
 
 one_program : (stated : Members) (p q : ProgramJob) → StatesProgram stated p → StatesProgram stated q → p ≡ q
@@ -58,6 +72,7 @@ one_program stated p q a b = same_program p q
     (one_array _ _ (sym a.coarser ∙ b.coarser))
     (one_number _ _ (sym a.drift ∙ b.drift))
     (one_array _ _ (sym a.drop ∙ b.drop))
+    (one_form _ _ (one_text _ _ (sym a.form ∙ b.form)))
 
 one_programs : (tables : List Members) (ps qs : List ProgramJob) → AreProgramsOf tables ps → AreProgramsOf tables qs → ps ≡ qs
 one_programs [] [] [] a b = refl

@@ -165,7 +165,7 @@ valid_program place taken members job none is =
     let weight = optional_right place members (codes "weight") is_integer (is_between 1 WEIGHT_MOST) (integer_of WEIGHT_DEFAULT) (integer_of job.weight) six.fourth is.weight default_weight in
     let coarser = optional_right place members (codes "coarser") (is_array_of is_integer) are_coarser (array_of COARSER_DEFAULT) (array_of job.coarser.items) six.fifth is.coarser default_coarser in
     let drift = optional_right place members (codes "drift") is_integer (is_between 0 DRIFT_MOST) (integer_of DRIFT_DEFAULT) (integer_of job.drift) six.sixth is.drift default_drift in
-    let drop = optional_right place members (codes "drop") (is_array_of is_integer) (are_numbers DROP_MOST 0 PID_MOST) (array_of []) (array_of job.drop.items) (none_before _ [] all.behind) is.drop default_drop in
+    let drop = optional_right place members (codes "drop") (is_array_of is_integer) (are_numbers DROP_MOST 0 PID_MOST) (array_of []) (array_of job.drop.items) (none_before _ _ all.behind) is.drop default_drop in
     let new = and_parts (is_between 1 NUMBER_MOST (integer_of job.number)) (not (list_any (λ n. n == job.number) taken)) number.within in
     let program_between = between 1 NUMBER_MOST job.program program.within in
     let number_between = between 1 NUMBER_MOST job.number new.0 in

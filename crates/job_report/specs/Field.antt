@@ -1,9 +1,12 @@
 -- The fields of a job text: which there are, in order, and what each may hold. Values are those of TOML.
 use Rattle.std.specs.Prelude.{ℕ, pos, ◌==◌, Bool, true, false, not, ◌&&◌, nat_lt, nat_le, List, [], ◌∷◌, length, map, codes, unwrap_or, is_some}
 use Rattle.std.specs.List.{list_any, list_all}
+use Rattle.std.specs.Str.{bytes_eq}
 use Rattle.toml.specs.Data.{Data, string, integer, array, Items, no_items, item, Members, get_member, as_integer, as_str, as_table}
 use Rattle.version_table.specs.declared.limits.TheConstants.{SLOT_LEAST, SLOT_MOST, NODES_MOST, EVALUATIONS_MOST, PROGRAMS_MOST}
 use Rattle.job_report.specs.declared.limits.TheConstants.{START_MOST, STREAM_ID_MOST, NUMBER_MOST, WEIGHT_MOST, COARSER_MOST, COARSENESS_LEAST, COARSENESS_MOST, DRIFT_MOST, DROP_MOST, PID_MOST}
+use Rattle.job_report.specs.declared.job.Form.{Form}
+use Rattle.job_report.specs.declared.job.Form.TheVariants.{Ts, Ps}
 
 -- ---- values
 
@@ -104,6 +107,16 @@ abbrev pub are_coarser : Data → Bool
 are_coarser value =
     are_numbers COARSER_MOST COARSENESS_LEAST COARSENESS_MOST value && rises (map natural_of (values_in value))
 
+-- the text of a form
+abbrev pub form_text : Form → List ℕ
+form_text Ts = codes "ts"
+form_text Ps = codes "ps"
+
+-- the text of a form there is
+abbrev pub is_form : Data → Bool
+is_form (string text) = list_any (λ form. bytes_eq text (form_text form)) (Ts ∷ Ps ∷ [])
+is_form value = false
+
 -- the fields of a program behind others that have these numbers, in order
 abbrev pub program_fields : (taken : List ℕ) → List Field
 program_fields taken =
@@ -114,4 +127,5 @@ program_fields taken =
     ∷ optional_field (codes "coarser") (is_array_of is_integer) are_coarser
     ∷ optional_field (codes "drift") is_integer (is_between 0 DRIFT_MOST)
     ∷ optional_field (codes "drop") (is_array_of is_integer) (are_numbers DROP_MOST 0 PID_MOST)
+    ∷ optional_field (codes "form") is_text is_form
     ∷ []

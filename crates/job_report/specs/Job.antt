@@ -2,8 +2,10 @@
 use Rattle.std.specs.Prelude.{◌≡◌, ℕ, pos, List, [], ◌∷◌, codes, Some, unwrap_or}
 use Rattle.toml.specs.Data.{Data, string, integer, array, Items, no_items, item, Members, get_member}
 use Rattle.job_report.specs.declared.limits.TheConstants.{START_DEFAULT, STREAM_ID_DEFAULT, NODES_DEFAULT, EVALUATIONS_DEFAULT, WEIGHT_DEFAULT, COARSER_DEFAULT, DRIFT_DEFAULT}
+use Rattle.job_report.specs.declared.job.Form.TheVariants.{Ts}
 use Rattle.job_report.specs.declared.job.ProgramJob.{ProgramJob}
 use Rattle.job_report.specs.declared.job.Job.{Job}
+use Rattle.job_report.specs.Field.{form_text}
 use Rattle.job_report.specs.Refusal.{programs_in}
 
 -- a number as TOML has it
@@ -32,6 +34,7 @@ pub record StatesProgram (members : Members) (job : ProgramJob) : Type 0 where
   pub coarser : stated_or (array_of COARSER_DEFAULT) (codes "coarser") members ≡ array_of job.coarser.items
   pub drift : stated_or (integer_of DRIFT_DEFAULT) (codes "drift") members ≡ integer_of job.drift
   pub drop : stated_or (array_of []) (codes "drop") members ≡ array_of job.drop.items
+  pub form : stated_or (string (form_text Ts)) (codes "form") members ≡ string (form_text job.form)
 
 -- tables state these programs, one each, in order
 abbrev pub AreProgramsOf : List Members → List ProgramJob → Type 0

@@ -3,17 +3,20 @@
 ghost use Rattle.std.specs.Prelude.{◌≡◌, ◌≤◌, Some, IfOk, IfErr, [], length, map, codes, option_map};
 ghost use Rattle.toml.specs.Data.{string, get_member};
 ghost use Rattle.toml.specs.View.{view, table_view};
-ghost use Rattle.job_report.specs.Field.{required, optional_field, is_integer, is_between, is_text, is_some_text, is_table, is_array_of, are_numbers, are_coarser, has_between, is_new_number};
+ghost use Rattle.job_report.specs.Field.{required, optional_field, is_integer, is_between, is_text, is_some_text, is_table, is_array_of, are_numbers, are_coarser, has_between, is_new_number, form_text, is_form};
 ghost use Rattle.job_report.specs.Refusal.{refusals_of_field, stated_tables, tables_among};
+ghost use Rattle.job_report.specs.declared.job.Form.TheVariants.{Ts};
 ghost use Rattle.job_report.specs.Job.{integer_of, array_of, stated_or};
 ghost use Rattle.job_report.specs.Private.Fault.{TellsFirst};
 ghost use Rattle.job_report.specs.Private.Place.{place_text};
 
 use crate::fault::JobFault;
-use crate::job::ProgramJob;
+use crate::job::{Form, ProgramJob};
 use crate::limits::{COARSER_DEFAULT, COARSER_MOST, FIELD_NAME_MOST};
 use crate::place::{Place, field_fault, wrong_fault};
-use crate::values::{coarser_in, new_number_in, number_in, numbers_in, tables_in, text_in};
+use crate::values::{
+    coarser_in, form_in, new_number_in, number_in, numbers_in, tables_in, text_in,
+};
 use arrayvec::ArrayVec;
 use toml::{Table, Value};
 
@@ -154,6 +157,21 @@ pub(crate) fn optional_coarser(
         Some(value) => match coarser_in(value) {
             Ok(numbers) => Ok(numbers),
             Err(wrong) => Err(wrong_fault(place, "coarser", wrong)),
+        },
+    }
+}
+
+/// The form of a program's file, which may be left out.
+pub(crate) fn optional_form(table: &Table, place: Place) -> Result<Form, JobFault>
+    ensures right { IfOk result (λ form. refusals_of_field (place_text place) (table_view table.now) (optional_field (codes "form") is_text is_form) ≡ []) }
+    ensures form { IfOk result (λ form. stated_or (string (form_text Ts)) (codes "form") (table_view table.now) ≡ string (form_text form)) }
+    ensures wrong { IfErr result (TellsFirst (refusals_of_field (place_text place) (table_view table.now) (optional_field (codes "form") is_text is_form))) }
+{
+    match stated(table, "form") {
+        None => Ok(Form::Ts),
+        Some(value) => match form_in(value) {
+            Ok(form) => Ok(form),
+            Err(wrong) => Err(wrong_fault(place, "form", wrong)),
         },
     }
 }

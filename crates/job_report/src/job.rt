@@ -1,4 +1,5 @@
 ghost use Rattle.std.specs.Prelude.{◌≡◌, ◌≤◌, [], length};
+ghost use Rattle.job_report.specs.declared.job.Form.TheVariants.{Ts};
 ghost use Rattle.job_report.specs.ValidJob.{IsValidProgramJob};
 
 use crate::fields::copied;
@@ -8,6 +9,15 @@ use crate::limits::{
 };
 use arrayvec::ArrayVec;
 use list_types::{ListOf, Text};
+
+/// The form of a file that holds a program (ISO/IEC 13818-1).
+#[derive(Clone, Copy, Debug, PartialEq, Eq)]
+pub enum Form {
+    /// A transport stream (2.4).
+    Ts,
+    /// A program stream (2.5).
+    Ps,
+}
 
 /// One program of a job.
 #[derive(Drop)]
@@ -25,8 +35,10 @@ pub struct ProgramJob {
     /// How much more the distortions of a picture count for each coded frame with a P picture that is predicted from it; 0 where
     /// all count alike.
     pub drift: u8,
-    /// PIDs of audio streams that aren't carried.
+    /// Audio streams that aren't carried: their PIDs in a transport stream, their stream ids in a program stream.
     pub drop: ArrayVec<u16, DROP_MOST>,
+    /// The form of its file.
+    pub form: Form,
 }
 
 impl ProgramJob {
@@ -39,6 +51,7 @@ impl ProgramJob {
         ensures coarser { result.coarser.items ≡ COARSER_DEFAULT }
         ensures drift { result.drift ≡ DRIFT_DEFAULT }
         ensures drop { result.drop.items ≡ [] }
+        ensures form { result.form ≡ Ts }
 
         // The defaults are within the limits.
         ensures valid { 1 ≤ length file → 1 ≤ program → 1 ≤ number → IsValidProgramJob result }
@@ -51,6 +64,7 @@ impl ProgramJob {
             coarser: copied(&COARSER_DEFAULT),
             drift: DRIFT_DEFAULT,
             drop: ArrayVec::new(),
+            form: Form::Ts,
         }
     }
 }

@@ -23,7 +23,7 @@ mod values;
 mod wording;
 
 pub use fault::JobFault;
-pub use job::{Job, ProgramJob};
+pub use job::{Form, Job, ProgramJob};
 pub use line::report_text;
 pub use list_types::{ListOf, OutOfMemory, Text};
 pub use read::read_job;

@@ -24,8 +24,8 @@ const JOB_NAMES: [&str; 6] = [
 ];
 
 /// The names of a program's fields.
-const PROGRAM_NAMES: [&str; 7] = [
-    "file", "program", "number", "weight", "coarser", "drift", "drop",
+const PROGRAM_NAMES: [&str; 8] = [
+    "file", "program", "number", "weight", "coarser", "drift", "drop", "form",
 ];
 
 /// What a refusal names where a table has a name that is none of these.

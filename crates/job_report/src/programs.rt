@@ -9,8 +9,8 @@ ghost use Rattle.job_report.specs.Private.Fault.{TellsFirst};
 
 use crate::fault::JobFault;
 use crate::fields::{
-    optional_coarser, optional_number, optional_numbers, required_new_number, required_number,
-    required_text,
+    optional_coarser, optional_form, optional_number, optional_numbers, required_new_number,
+    required_number, required_text,
 };
 use crate::job::ProgramJob;
 use crate::limits::{
@@ -69,6 +69,7 @@ fn read_program(alloc: Global, table: &Table, before: &[ProgramJob]) -> Result<P
         DRIFT_MOST as u64,
     )?;
     let drop = optional_numbers(table, place, "drop", &[], 0, PID_MOST)?;
+    let form = optional_form(table, place)?;
     check_program_names(table, place)?;
     let mut file = Text::new(alloc);
     file.push_str(name)?;
@@ -80,5 +81,6 @@ fn read_program(alloc: Global, table: &Table, before: &[ProgramJob]) -> Result<P
         coarser,
         drift: drift as u8,
         drop,
+        form,
     })
 }

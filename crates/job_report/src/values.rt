@@ -4,11 +4,11 @@ ghost use Rattle.std.specs.Prelude.{◌≡◌, ◌≤◌, ◌==◌, ◌&&◌, Bo
 ghost use Rattle.std.specs.List.{list_all, list_any};
 ghost use Rattle.toml.specs.Data.{Data, string, array};
 ghost use Rattle.toml.specs.View.{view, items_view};
-ghost use Rattle.job_report.specs.Field.{is_integer, is_between, is_text, is_some_text, is_table, is_array_of, are_numbers, are_coarser, has_between, is_new_number, rises, values_in};
+ghost use Rattle.job_report.specs.Field.{is_integer, is_between, is_text, is_some_text, is_table, is_array_of, are_numbers, are_coarser, has_between, is_new_number, rises, values_in, form_text, is_form};
 ghost use Rattle.job_report.specs.Job.{integer_of, array_of};
 ghost use Rattle.job_report.specs.Private.Value.{IsRight, IsWrong};
 
-use crate::job::ProgramJob;
+use crate::job::{Form, ProgramJob};
 use crate::limits::{COARSENESS_LEAST, COARSENESS_MOST, COARSER_MOST, NUMBER_MOST};
 use arrayvec::ArrayVec;
 use toml::Value;
@@ -176,6 +176,35 @@ pub(crate) fn coarser_in(value: &Value) -> Result<ArrayVec<u16, COARSER_MOST>, W
             }
         }
         Err(wrong) => Err(wrong),
+    }
+}
+
+/// The form of this text, if there is one.
+fn form_of(text: &str) -> Option<Form>
+    ensures form { IfSome result (λ form. text.now ≡ form_text form) }
+    ensures none { IfNone result (is_form (string text.now) ≡ false) }
+{
+    if text == "ts" {
+        Some(Form::Ts)
+    } else if text == "ps" {
+        Some(Form::Ps)
+    } else {
+        None
+    }
+}
+
+/// The form of a value, which is its text.
+pub(crate) fn form_in(value: &Value) -> Result<Form, Wrong>
+    ensures form { IfOk result (λ form. view value.now ≡ string (form_text form)) }
+    ensures right { IfOk result (λ form. IsRight is_text is_form (view value.now)) }
+    ensures wrong { IfErr result (IsWrong is_text is_form (view value.now)) }
+{
+    let Some(text) = value.as_str() else {
+        return Err(Wrong::OtherType);
+    };
+    match form_of(text) {
+        Some(form) => Ok(form),
+        None => Err(Wrong::OutOfRange),
     }
 }
 

@@ -96,8 +96,11 @@ fn write_program_field<W: fmt::Write>(f: &mut fmt::Formatter<W>, field: &str) ->
         ),
         "drop" => write!(
             f,
-            "at most {DROP_MOST} PIDs from 0 to {PID_MOST}, by default none"
+            "at most {DROP_MOST} PIDs, of a program stream stream ids, from 0 to {PID_MOST}, by default none"
         ),
-        _ => f.write_str("file, program, number, weight, coarser, drift and drop"),
+        "form" => f.write_str(
+            "\"ts\" for a transport stream or \"ps\" for a program stream, by default \"ts\"",
+        ),
+        _ => f.write_str("file, program, number, weight, coarser, drift, drop and form"),
     }
 }

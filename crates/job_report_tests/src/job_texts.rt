@@ -77,7 +77,7 @@ fn fields_of_a_job_are_tested_in_order(rt: HostRuntime) -> Result<(), Fail> {
 }
 
 /// What goes on behind a job with what must be there, and what reading both answers.
-const PROGRAM_FIELDS: [(&str, &str); 36] = [
+const PROGRAM_FIELDS: [(&str, &str); 41] = [
     ("", "job"),
     ("weight = 1\n", "job"),
     ("weight = 0\n", "limit program[0].weight"),
@@ -108,6 +108,11 @@ const PROGRAM_FIELDS: [(&str, &str); 36] = [
     ("drop = [8192]\n", "limit program[0].drop"),
     ("drop = [-1]\n", "limit program[0].drop"),
     ("drop = [33, 34.0]\n", "field program[0].drop"),
+    ("form = \"ts\"\n", "job"),
+    ("form = \"ps\"\n", "job"),
+    ("form = \"PS\"\n", "limit program[0].form"),
+    ("form = 1\n", "field program[0].form"),
+    ("form = \"\"\ndrop = 33\n", "field program[0].drop"),
     ("[[program]]\n", "field program[1].file"),
     ("[[program]]\nfile = \"\"\n", "limit program[1].file"),
     ("[[program]]\nfile = \"b\"\n", "field program[1].program"),
@@ -202,13 +207,14 @@ fn numbers_of(job: &Job) -> [u64; 5] {
     ]
 }
 
-/// What a program states: its file, its numbers with its weight and its drift, and its lists.
+/// What a program states: its file, its numbers with its weight and its drift, its lists, and its form.
 #[derive(Clone, Copy)]
 struct Stated<'a> {
     file: &'a str,
     numbers: [u16; 4],
     coarser: &'a [u16],
     drop: &'a [u16],
+    form: Form,
 }
 
 /// Whether these are the one program that is stated.
@@ -224,6 +230,7 @@ fn are_one(programs: &[ProgramJob], stated: &Stated<'_>) -> bool {
                 ] == stated.numbers
                 && program.coarser.as_slice() == stated.coarser
                 && program.drop.as_slice() == stated.drop
+                && program.form == stated.form
         }
         _ => false,
     }
@@ -237,6 +244,7 @@ fn what_is_not_stated_has_its_default(rt: HostRuntime) -> Result<(), Fail> {
         numbers: [1, 1, 1, 0],
         coarser: &[24, 32, 48, 80, 128],
         drop: &[],
+        form: Form::Ts,
     };
     assert_eq!(rt; numbers_of(&job), [4_000, 13_500_000, 1, 1_000, 1_000]);
     assert!(rt; are_one(job.programs.as_slice(), &stated));
@@ -246,13 +254,14 @@ fn what_is_not_stated_has_its_default(rt: HostRuntime) -> Result<(), Fail> {
 #[test]
 fn what_is_stated_is_read(rt: HostRuntime) -> Result<(), Fail> {
     let text = "evaluations = 0\nnodes = 7\nslot = 1016\nstart = 27_000_000\nstream_id = 0x1F\n\
-        program = [{file = 'b c', program = 2, number = 3, weight = 100, coarser = [17], drift = 6, drop = [33, 34]}]\n";
+        program = [{file = 'b c', program = 2, number = 3, weight = 100, coarser = [17], drift = 6, drop = [33, 34], form = 'ps'}]\n";
     let job = read_job(rt.alloc(), text.as_bytes())?;
     let stated = Stated {
         file: "b c",
         numbers: [2, 3, 100, 6],
         coarser: &[17],
         drop: &[33, 34],
+        form: Form::Ps,
     };
     assert_eq!(rt; numbers_of(&job), [1_016, 27_000_000, 31, 7, 0]);
     assert!(rt; are_one(job.programs.as_slice(), &stated));
@@ -301,6 +310,7 @@ fn a_probed_program_has_the_defaults(rt: HostRuntime) -> Result<(), Fail> {
         numbers: [7, 9, 1, 0],
         coarser: &[24, 32, 48, 80, 128],
         drop: &[],
+        form: Form::Ts,
     };
     assert_eq!(rt; numbers_of(&job), [4_000, 13_500_000, 1, 1_000, 1_000]);
     assert!(rt; are_one(job.programs.as_slice(), &stated));

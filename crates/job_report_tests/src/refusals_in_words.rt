@@ -2,7 +2,7 @@ use job_report::*;
 use std::test::Fail;
 
 /// Texts that are no jobs, and the words of their refusals.
-const REFUSALS: [(&str, &str); 7] = [
+const REFUSALS: [(&str, &str); 8] = [
     ("slot", "job: the text is no TOML document"),
     (
         "",
@@ -26,7 +26,11 @@ const REFUSALS: [(&str, &str); 7] = [
     ),
     (
         "slot = 4000\nprogram = [{file = 'a', program = 1, number = 1, name = 'film'}]",
-        "job: program[0].unknown is no field; allowed: file, program, number, weight, coarser, drift and drop",
+        "job: program[0].unknown is no field; allowed: file, program, number, weight, coarser, drift, drop and form",
+    ),
+    (
+        "slot = 4000\nprogram = [{file = 'a', program = 1, number = 1, form = 'mpg'}]",
+        "job: program[0].form is out of range; allowed: \"ts\" for a transport stream or \"ps\" for a program stream, by default \"ts\"",
     ),
 ];
 

@@ -6,6 +6,7 @@ use Rattle.psi_tables.specs.declared.stream.Stream.{Stream}
 use Rattle.version_table.specs.declared.table.Table.{Table}
 use Rattle.version_table.specs.Choice.{Fits}
 use Rattle.slot_rule.specs.declared.slot_list.SlotList.{SlotList}
+use Rattle.job_report.specs.declared.job.Form.{Form}
 use Rattle.job_report.specs.declared.job.Job.{Job}
 use Rattle.job_report.specs.declared.job.ProgramJob.{ProgramJob}
 use Rattle.program_reader.specs.declared.program.Program.{Program}
@@ -20,7 +21,7 @@ use Rattle.job_programs.specs.Programs.{AreNextPrograms, ArePrograms}
 use Rattle.program_table.specs.Table.{IsTableOf}
 use Rattle.job_stream.specs.Stream.{layout_of}
 use Rattle.job_stream.proofs.LayoutLemmas.{maps-count}
-use Rattle.job_stream.proofs.Maps.{carried-kinds}
+use Rattle.job_stream.proofs.TakenMaps.{taken-written}
 use Rattle.job_stream.proofs.PieceSizes.{pieces-sized}
 use Rattle.job_stream.proofs.ReadPrograms.{AreReady}
 use Rattle.job_stream.proofs.RowLemmas.{SlotsNameTable, rows-there}
@@ -37,10 +38,10 @@ layout-is-one job programs few ready =
 abbrev pub HasKinds : Program → Type 0
 HasKinds program = All (λ (stream : Stream). stream.kind < 2 ^ 8) program.map.streams.items
 
-kinds-of : (file : List ℕ) (number : ℕ) (dropped : List ℕ) (start : ℕ) (program : Program) → IsProgramOfFile file number dropped start program → HasKinds program
-kinds-of file number dropped start program of =
+kinds-of : (form : Form) (file : List ℕ) (number : ℕ) (dropped : List ℕ) (start : ℕ) (program : Program) → IsProgramOfFile form file number dropped start program → HasKinds program
+kinds-of form file number dropped start program of =
     subst (λ (m : ProgramMap). All (λ (stream : Stream). stream.kind < 2 ^ 8) m.streams.items) (sym of.program_is.map_is)
-    (carried-kinds file number dropped of.demuxed.map of.demuxed.not_carried of.demuxed_is.tables)
+    (taken-written form file number dropped of.demuxed of.demuxed_is).kinds
 
 next-kinds : (slot start : ℕ) (contents : List (List ℕ)) (before : List Program) (jobs : List ProgramJob) (further : List (List ℕ)) (programs : List Program)
     → AreNextPrograms slot start contents before jobs further programs → All HasKinds programs
@@ -50,7 +51,7 @@ next-kinds slot start contents before [] (c ∷ cs) programs are = absurd are
 next-kinds slot start contents before (j ∷ js) [] programs are = absurd are
 next-kinds slot start contents before (j ∷ js) (c ∷ cs) [] are = absurd are
 next-kinds slot start contents before (j ∷ js) (c ∷ cs) (p ∷ ps) (next, rest) =
-    All-cons HasKinds p ps (kinds-of c j.program j.drop.items start p next.holds) (next-kinds slot start (contents ++ c ∷ []) (before ++ p ∷ []) js cs ps rest)
+    All-cons HasKinds p ps (kinds-of j.form c j.program j.drop.items start p next.holds) (next-kinds slot start (contents ++ c ∷ []) (before ++ p ∷ []) js cs ps rest)
 
 pub kinds-are : (job : Job) (contents : List (List ℕ)) (programs : List Program) → ArePrograms job contents programs
     → All (λ (program : Program). All (λ (stream : Stream). stream.kind < 2 ^ 8) program.map.streams.items) programs

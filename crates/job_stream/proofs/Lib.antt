@@ -8,4 +8,5 @@ pub mod PieceSizes
 pub mod ReadPrograms
 pub mod RowLemmas
 pub mod StreamSize
+mod TakenMaps
 mod WriteLemmas

@@ -122,7 +122,7 @@ carried-writable file number dropped carried others has =
 
 -- ---- stream types
 
-abbrev HasKind : Stream → Type 0
+abbrev pub HasKind : Stream → Type 0
 HasKind stream = stream.kind < 2 ^ 8
 
 infos-kinds : (infos : List StreamInfo) (bytes : List ℕ) → IsItemRow IsStreamInfo infos bytes → All HasKind (map stream_of infos)

@@ -1,13 +1,12 @@
 -- The programs of a job can go out.
 use Rattle.std.proofs.Common.{◌≡◌, ℕ, suc, ◌+◌, ◌≤◌, List, [], ◌∷◌, ◌++◌, All, length, ℤ, refl, sym, ap, subst, ◌∙◌, arith}
-use Rattle.std.proofs.lemmas.List.{length-map}
 use Rattle.std.proofs.lemmas.List.Elements.{All-cons, All-nil}
 use Rattle.audio_frames.specs.declared.frame.Frame.{Frame}
 use Rattle.psi_tables.specs.declared.program_map.ProgramMap.{ProgramMap}
 use Rattle.psi_tables.specs.Pmt.{IsWritableMap, pmt_length}
 use Rattle.ts_demux.specs.declared.demuxed.AudioStream.{AudioStream}
 use Rattle.ts_demux.specs.declared.demuxed.Demuxed.{Demuxed}
-use Rattle.ts_demux.specs.Demux.{IsDemuxed, pes_packets_on}
+use Rattle.job_report.specs.declared.job.Form.{Form}
 use Rattle.job_report.specs.declared.job.Job.{Job}
 use Rattle.job_report.specs.declared.job.ProgramJob.{ProgramJob}
 use Rattle.program_reader.specs.declared.program.AudioSource.{AudioSource}
@@ -17,7 +16,8 @@ use Rattle.program_reader.specs.Programs.{IsProgram, IsProgramOfFile}
 use Rattle.version_source.specs.Sendable.{IsSendable}
 use Rattle.job_programs.specs.Programs.{AreNextPrograms, ArePrograms}
 use Rattle.job_stream.specs.Private.Outgoing.{CanGoOut}
-use Rattle.job_stream.proofs.Maps.{carried-writable}
+use Rattle.program_table.proofs.TakenOut.{its-streams}
+use Rattle.job_stream.proofs.TakenMaps.{taken-written}
 
 -- there are as many audio sources as streams
 as-many-audios : (start : ℕ) (earliest : ℤ) (streams : List AudioStream) (frames : List (List Frame)) (sources : List AudioSource) → AreAudioSources start earliest streams frames sources
@@ -30,19 +30,18 @@ as-many-audios start earliest (x ∷ xs) (f ∷ fs) [] are = absurd are
 as-many-audios start earliest (x ∷ xs) (f ∷ fs) (s ∷ ss) are = ap suc (as-many-audios start earliest xs fs ss are.1)
 
 -- a program that was read can go out
-pub goes-out : (file : List ℕ) (number : ℕ) (dropped : List ℕ) (start : ℕ) (program : Program) → IsProgramOfFile file number dropped start program → CanGoOut program
-goes-out file number dropped start program of =
+pub goes-out : (form : Form) (file : List ℕ) (number : ℕ) (dropped : List ℕ) (start : ℕ) (program : Program) → IsProgramOfFile form file number dropped start program → CanGoOut program
+goes-out form file number dropped start program of =
     let is : IsProgram start of.demuxed program = of.program_is in
-    let demuxed : IsDemuxed file number dropped of.demuxed = of.demuxed_is in
+    let written = taken-written form file number dropped of.demuxed of.demuxed_is in
+    let its = its-streams form file number dropped of.demuxed of.demuxed_is in
     let audios : length of.demuxed.audios ≡ length program.audios = as-many-audios start is.earliest of.demuxed.audios is.frames program.audios is.audios_are in
-    let streams : length of.demuxed.audios ≡ length demuxed.audios = ap length demuxed.audio_packets ∙ length-map demuxed.audios (pes_packets_on file) in
-    let carried : length of.demuxed.map.streams.items ≡ length demuxed.audios + 1 = omega (arith, ap length demuxed.streams) in
     let one : length program.map.streams.items ≡ length of.demuxed.map.streams.items = ap (λ (m : ProgramMap). length m.streams.items) is.map_is in record {
-      writable = subst IsWritableMap (sym is.map_is) (carried-writable file number dropped of.demuxed.map of.demuxed.not_carried demuxed.tables);
-      few = omega (arith, one, demuxed.few);
-      fits = subst (λ (m : ProgramMap). pmt_length m ≤ 183) (sym is.map_is) demuxed.short;
+      writable = subst IsWritableMap (sym is.map_is) written.writable;
+      few = omega (arith, one, its.as_many, its.few);
+      fits = subst (λ (m : ProgramMap). pmt_length m ≤ 183) (sym is.map_is) written.fits;
       base = is.base_is.below;
-      streams = omega (arith, one, carried, streams, audios);
+      streams = omega (arith, one, its.as_many, audios);
     }
 
 -- what the programs of a job have: as many as the job says, each goes out and can be sent
@@ -65,7 +64,7 @@ next-ready law slot start contents before (j ∷ js) (c ∷ cs) [] are = absurd 
 next-ready law slot start contents before (j ∷ js) (c ∷ cs) (p ∷ ps) (next, rest) =
     let ready : AreReady js ps = next-ready law slot start (contents ++ c ∷ []) (before ++ p ∷ []) js cs ps rest in record {
       as_many = ap suc ready.as_many;
-      out = All-cons CanGoOut p ps (goes-out c j.program j.drop.items start p next.holds) ready.out;
+      out = All-cons CanGoOut p ps (goes-out j.form c j.program j.drop.items start p next.holds) ready.out;
       sendable = All-cons IsSendable p ps (law start next.holds.demuxed p next.holds.program_is) ready.sendable;
     }
 

@@ -9,6 +9,8 @@ use Rattle.job_programs.specs.Probe.{IsProbed}
 use Rattle.job_programs.specs.Share.{KeepsShare, audio_packets}
 use Rattle.job_programs.specs.declared.limits.TheConstants.{PROBED_AUDIO_PACKETS_MOST}
 use Rattle.job_programs.specs.Programs.{IsWithinTime}
+use Rattle.job_report.specs.declared.job.Form.{Form}
+use Rattle.job_report.specs.declared.job.Form.TheVariants.{Ts}
 use Rattle.job_report.specs.declared.limits.TheConstants.{COARSER_DEFAULT, COARSER_MOST, DRIFT_DEFAULT, EVALUATIONS_DEFAULT, NODES_DEFAULT, PROBE_SLOT, START_DEFAULT, WEIGHT_DEFAULT, WEIGHT_MOST}
 use Rattle.program_reader.specs.declared.program.AudioSource.{AudioSource}
 use Rattle.program_reader.specs.declared.program.Program.{Program}
@@ -36,8 +38,8 @@ row_packets (audio ∷ audios) =
 
 -- the law that the row of a program has a place in a table
 abbrev pub RowsArePlaced : Type 0
-RowsArePlaced = (slot start number weight : ℕ) (content drop coarser : List ℕ) (program : Program) (row : ProgramRow) → weight ≤ WEIGHT_MOST → length coarser ≤ COARSER_MOST
-    → IsProgramOfFile content number drop start program → IsWithinTime slot program → KeepsShare weight DRIFT_DEFAULT coarser program → AreBytes program.video → IsRowOf program coarser weight DRIFT_DEFAULT row
+RowsArePlaced = (slot start : ℕ) (form : Form) (number weight : ℕ) (content drop coarser : List ℕ) (program : Program) (row : ProgramRow) → weight ≤ WEIGHT_MOST → length coarser ≤ COARSER_MOST
+    → IsProgramOfFile form content number drop start program → IsWithinTime slot program → KeepsShare weight DRIFT_DEFAULT coarser program → AreBytes program.video → IsRowOf program coarser weight DRIFT_DEFAULT row
     → IsValidProgram slot row × (length row.units ≤ UNITS_MOST) × (length (flat_map (λ packets. packets) row.audios) < AUDIO_PACKETS_LIMIT)
     × (sum_by greatest_distortion row.units < DISTORTIONS_LIMIT)
 
@@ -53,7 +55,7 @@ is_probed_table program row is = record { slot = refl; nodes = refl; evaluations
 row_is_text : RowsArePlaced → (number : ℕ) (content : List ℕ) (program : Program) (row : ProgramRow) → IsProbed PROBE_SLOT START_DEFAULT number [] content program
     → AreBytes program.video → IsRowOf program COARSER_DEFAULT WEIGHT_DEFAULT DRIFT_DEFAULT row → IsTextTable (table_of_row row)
 row_is_text law number content program row probed bytes is =
-    let placed = law PROBE_SLOT START_DEFAULT number WEIGHT_DEFAULT content [] COARSER_DEFAULT program row (omega arith) (omega arith) probed.is_program.holds probed.is_program.within probed.is_program.share bytes is in
+    let placed = law PROBE_SLOT START_DEFAULT Ts number WEIGHT_DEFAULT content [] COARSER_DEFAULT program row (omega arith) (omega arith) probed.is_program.holds probed.is_program.within probed.is_program.share bytes is in
     let same : length (flat_map (λ (packets : List AudioPacket). packets) row.audios) ≡ audio_packets program.audios =
     ap (λ (r : ProgramRow). length (flat_map (λ (packets : List AudioPacket). packets) r.audios)) is.row_is ∙ row_packets program.audios in
     let units : length (row.units ++ []) ≡ length row.units = ap length (append-nil row.units) in

@@ -1,3 +1,4 @@
+pub mod AudioMaps
 pub mod CarryLemmas
 pub mod CutLemmas
 pub mod DueLemmas
@@ -26,3 +27,4 @@ pub mod UnitLemmas
 pub mod TimeRange
 mod CarryExamples
 mod Examples
+mod FormExamples

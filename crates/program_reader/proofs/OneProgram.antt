@@ -18,8 +18,12 @@ use Rattle.ts_demux.specs.declared.demux_fault.DemuxFault.TheVariants as demux_f
 use Rattle.ts_demux.specs.declared.demuxed.AudioStream.{AudioStream}
 use Rattle.ts_demux.specs.declared.demuxed.Demuxed.{Demuxed}
 use Rattle.ts_demux.specs.declared.demuxed.PesUnit.{PesUnit}
-use Rattle.ts_demux.specs.Demux.{IsDemuxed}
 use Rattle.ts_demux.proofs.OneAnswer as demux_answers
+use Rattle.program_stream.specs.declared.split_fault.SplitFault.{SplitFault}
+use Rattle.program_stream.specs.declared.split_fault.SplitFault.TheVariants as split_faults
+use Rattle.program_stream.proofs.OneAnswer as split_answers
+use Rattle.job_report.specs.declared.job.Form.{Form}
+use Rattle.job_report.specs.declared.job.Form.TheVariants.{Ts, Ps}
 use Rattle.program_reader.specs.declared.pes_packets.PlacedPacket.{PlacedPacket}
 use Rattle.program_reader.specs.declared.program.AudioPiece.{AudioPiece}
 use Rattle.program_reader.specs.declared.program.AudioSource.{AudioSource}
@@ -29,12 +33,15 @@ use Rattle.program_reader.specs.declared.program_fault.ProgramFault.{ProgramFaul
 use Rattle.program_reader.specs.declared.program_fault.ProgramFault.TheVariants.{Refused, OutOfMemory}
 use Rattle.program_reader.specs.declared.timed_picture.Role.{Role}
 use Rattle.program_reader.specs.declared.timed_picture.TimedPicture.{TimedPicture}
-use Rattle.program_reader.specs.Faults.{of_demux, of_pes, of_audio}
+use Rattle.program_reader.specs.Faults.{of_demux, of_split, of_pes, of_audio}
 use Rattle.program_reader.specs.Packets.{fault_before, AreSound, IsPacketFault, joined, placed_from}
 use Rattle.program_reader.specs.Units.{AreKept, but_last, IsBroken, IsUnitsFault}
 use Rattle.program_reader.specs.Audio.{taken_of, HasFrames, IsStreamRefused, bad_packet, bad_frames, HaveFrames, IsAudioFault, IsDue, ArePieces, placed_pieces, AreAudioSources}
+use Rattle.program_reader.specs.AudioTypes.{typed}
 use Rattle.program_reader.specs.Programs as programs
 use Rattle.program_reader.specs.Programs.{
+  StandIn,
+  IsTakenOut,
   HasFewPackets,
   video_bytes,
   video_packets,
@@ -46,9 +53,11 @@ use Rattle.program_reader.specs.Programs.{
   clock_round,
   IsBase,
   AreUnitSources,
+  all_packets_dropped,
   IsProgram,
   IsProgramOfFile,
   IsDemuxedRefused,
+  AreStreamsRefused,
   IsProgramRefused,
 }
 use Rattle.program_reader.proofs.OneAudio.{starts_one, frames_one, refused_one, refused_or_frames}
@@ -360,8 +369,8 @@ same_program a b maps bases vbvs videos units audios units_dropped pes_dropped r
       not_carried = xs;
     }) rests not_carried
 
-program_one : (start : ℕ) (demuxed : Demuxed) (a b : Program) → IsProgram start demuxed a → IsProgram start demuxed b → a ≡ b
-program_one start demuxed a b is is' =
+program_one : (start : ℕ) (demuxed : Demuxed) (a b : Program) → IsProgram start demuxed a → IsProgram start demuxed b → a.pes_dropped ≡ b.pes_dropped → a ≡ b
+program_one start demuxed a b is is' pes_dropped =
     let same = pictures_one demuxed is.kept is'.kept is.first is'.first is.pictures is'.pictures a.units_dropped b.units_dropped is.has_pictures is'.has_pictures in
     let frames : is.frames ≡ is'.frames = have_frames_one is'.first.stated demuxed.audios is.frames is'.frames
     (subst (λ (p : TimedPicture). HaveFrames p.stated demuxed.audios is.frames) same.firsts is.have_frames) is'.have_frames in
@@ -377,7 +386,7 @@ program_one start demuxed a b is is' =
     (subst (λ (e : ℤ). AreAudioSources start e demuxed.audios is'.frames a.audios) earliest
     (subst (λ (fs : List (List Frame)). AreAudioSources start is.earliest demuxed.audios fs a.audios) frames is.audios_are)) is'.audios_are in
     same_program a b (is.map_is ∙ sym is'.map_is) bases (is.vbv_is ∙ ap (λ (p : TimedPicture). p.seq.vbv) same.firsts ∙ sym is'.vbv_is) (is.video_is ∙ sym is'.video_is) units audios same.count
-    (is.pes_dropped_is ∙ sym is'.pes_dropped_is) (is.rest_is ∙ sym is'.rest_is) (is.not_carried_are ∙ sym is'.not_carried_are)
+    pes_dropped (is.rest_is ∙ sym is'.rest_is) (is.not_carried_are ∙ sym is'.not_carried_are)
 
 module _ (demuxed : Demuxed) where
   has_sound : (kept : List (ℕ × ℕ)) (first : TimedPicture) (ps : List TimedPicture) (dropped : ℕ) → HasPictures demuxed kept first ps dropped → AreSound true demuxed.video
@@ -447,58 +456,105 @@ module _ (demuxed : Demuxed) where
       absurd (audio_or_have kept' kept first' first qs ps dropped' dropped b frames some' has' has is have)
   demuxed_refused_one a b some some' (programs.many_units kept first ps dropped frames has have many e) (programs.many_units kept' first' qs dropped' frames' has' have' many' e') = e ∙ sym e'
 
--- ---- the file
+-- ---- the streams of a file
 
 known_demux : (fault : ProgramFault) (found : DemuxFault) → fault ≢ OutOfMemory → fault ≡ of_demux found → found ≢ demux_faults.OutOfMemory
 known_demux fault found some is none = some (is ∙ ap of_demux none)
 
-module _ (file : List ℕ) (number : ℕ) (drop : List ℕ) where
-  pub one_program : (start : ℕ) (a b : Program) → IsProgramOfFile file number drop start a → IsProgramOfFile file number drop start b → a ≡ b
+known_split : (fault : ProgramFault) (found : SplitFault) → fault ≢ OutOfMemory → fault ≡ of_split found → found ≢ split_faults.OutOfMemory
+known_split fault found some is none = some (is ∙ ap of_split none)
+
+one_form : (form : Form) → form ≡ Ts → form ≡ Ps → ⊥
+one_form form ts ps = (let both : Ts ≡ Ps = sym ts ∙ ps in cc)
+
+module _ (form : Form) (file : List ℕ) (number : ℕ) (drop : List ℕ) where
+  stand_one : (one other : Demuxed) (cut other_cut : ℕ) → StandIn form file number drop one cut → StandIn form file number drop other other_cut → (one ≡ other) × (cut ≡ other_cut)
+  stand_one one other cut other_cut (programs.in_packets ts is none) (programs.in_packets ts' is' none') =
+      (demux_answers.one_demuxed file number drop one other is is', none ∙ sym none')
+  stand_one one other cut other_cut (programs.in_packets ts is none) (programs.in_elements ps first is') = absurd (one_form form ts ps)
+  stand_one one other cut other_cut (programs.in_elements ps first is) (programs.in_packets ts is' none) = absurd (one_form form ts ps)
+  stand_one one other cut other_cut (programs.in_elements ps first is) (programs.in_elements ps' first' is') = split_answers.one_split file drop one other cut other_cut is is'
+
+  taken_one : (one other : Demuxed) (is : IsTakenOut form file number drop one) (is' : IsTakenOut form file number drop other) → (one ≡ other) × (is.cut ≡ is'.cut)
+  taken_one one other is is' =
+      let same = stand_one is.found is'.found is.cut is'.cut is.stand is'.stand in
+      (is.typed_is ∙ ap (typed form) same.0 ∙ sym is'.typed_is, same.1)
+
+  pub one_taken_out : (one other : Demuxed) → IsTakenOut form file number drop one → IsTakenOut form file number drop other → one ≡ other
+  one_taken_out one other is is' = (taken_one one other is is').0
+
+  streams_fault_one : (a b : ProgramFault) → a ≢ OutOfMemory → b ≢ OutOfMemory → AreStreamsRefused form file number drop a → AreStreamsRefused form file number drop b → a ≡ b
+  streams_fault_one a b some some' (programs.of_packets found ts is e) (programs.of_packets found' ts' is' e') =
+      e ∙ ap of_demux (demux_answers.one_refusal file number drop found found' (known_demux a found some e) (known_demux b found' some' e') is is') ∙ sym e'
+  streams_fault_one a b some some' (programs.of_packets found ts is e) (programs.no_program ps other e') = absurd (one_form form ts ps)
+  streams_fault_one a b some some' (programs.of_packets found ts is e) (programs.of_elements found' ps same is' e') = absurd (one_form form ts ps)
+  streams_fault_one a b some some' (programs.no_program ps other e) (programs.of_packets found ts is e') = absurd (one_form form ts ps)
+  streams_fault_one a b some some' (programs.no_program ps other e) (programs.no_program ps' other' e') = e ∙ sym e'
+  streams_fault_one a b some some' (programs.no_program ps other e) (programs.of_elements found ps' same is e') = absurd (same other)
+  streams_fault_one a b some some' (programs.of_elements found ps same is e) (programs.of_packets found' ts is' e') = absurd (one_form form ts ps)
+  streams_fault_one a b some some' (programs.of_elements found ps same is e) (programs.no_program ps' other e') = absurd (same other)
+  streams_fault_one a b some some' (programs.of_elements found ps same is e) (programs.of_elements found' ps' same' is' e') =
+      e ∙ ap of_split (split_answers.one_split_fault file drop found found' (known_split a found some e) (known_split b found' some' e') is is') ∙ sym e'
+
+  stand_or_refused : (demuxed : Demuxed) (cut : ℕ) (fault : ProgramFault) → fault ≢ OutOfMemory → StandIn form file number drop demuxed cut → AreStreamsRefused form file number drop fault → ⊥
+  stand_or_refused demuxed cut fault some (programs.in_packets ts is none) (programs.of_packets found ts' is' e) =
+      known_demux fault found some e (demux_answers.never_both file number drop demuxed found is is')
+  stand_or_refused demuxed cut fault some (programs.in_packets ts is none) (programs.no_program ps other e) = one_form form ts ps
+  stand_or_refused demuxed cut fault some (programs.in_packets ts is none) (programs.of_elements found ps same is' e) = one_form form ts ps
+  stand_or_refused demuxed cut fault some (programs.in_elements ps first is) (programs.of_packets found ts is' e) = one_form form ts ps
+  stand_or_refused demuxed cut fault some (programs.in_elements ps first is) (programs.no_program ps' other e) = other.other first
+  stand_or_refused demuxed cut fault some (programs.in_elements ps first is) (programs.of_elements found ps' same is' e) =
+      known_split fault found some e (split_answers.split_or_refused file drop demuxed cut found is is')
+
+  taken_or_refused : (demuxed : Demuxed) (fault : ProgramFault) → fault ≢ OutOfMemory → IsTakenOut form file number drop demuxed → AreStreamsRefused form file number drop fault → ⊥
+  taken_or_refused demuxed fault some is refused = stand_or_refused is.found is.cut fault some is.stand refused
+
+  -- ---- the file
+
+  pub one_program : (start : ℕ) (a b : Program) → IsProgramOfFile form file number drop start a → IsProgramOfFile form file number drop start b → a ≡ b
   one_program start a b is is' =
-      let same : is.demuxed ≡ is'.demuxed = demux_answers.one_demuxed file number drop is.demuxed is'.demuxed is.demuxed_is is'.demuxed_is in
-      program_one start is'.demuxed a b (subst (λ (d : Demuxed). IsProgram start d a) same is.program_is) is'.program_is
+      let same = taken_one is.demuxed is'.demuxed is.demuxed_is is'.demuxed_is in
+      let dropped : a.pes_dropped ≡ b.pes_dropped =
+      is.pes_dropped_is ∙ ap₂ (λ (d : Demuxed) (n : ℕ). all_packets_dropped d + n) same.0 same.1 ∙ sym is'.pes_dropped_is in
+      program_one start is'.demuxed a b (subst (λ (d : Demuxed). IsProgram start d a) same.0 is.program_is) is'.program_is dropped
 
-  same_packets : (demuxed demuxed' : Demuxed) → IsDemuxed file number drop demuxed → IsDemuxed file number drop demuxed' → HasFewPackets demuxed → HasFewPackets demuxed'
-  same_packets demuxed demuxed' is is' few = subst (λ (d : Demuxed). HasFewPackets d) (demux_answers.one_demuxed file number drop demuxed demuxed' is is') few
+  same_packets : (demuxed demuxed' : Demuxed) → IsTakenOut form file number drop demuxed → IsTakenOut form file number drop demuxed' → HasFewPackets demuxed → HasFewPackets demuxed'
+  same_packets demuxed demuxed' is is' few = subst (λ (d : Demuxed). HasFewPackets d) (one_taken_out demuxed demuxed' is is') few
 
-  pub one_refusal : (a b : ProgramFault) → a ≢ OutOfMemory → b ≢ OutOfMemory → IsProgramRefused file number drop a → IsProgramRefused file number drop b → a ≡ b
+  pub one_refusal : (a b : ProgramFault) → a ≢ OutOfMemory → b ≢ OutOfMemory → IsProgramRefused form file number drop a → IsProgramRefused form file number drop b → a ≡ b
   one_refusal a b some some' (programs.memory e) is' = absurd (some e)
   one_refusal a b some some' is (programs.memory e) = absurd (some' e)
   one_refusal a b some some' (programs.long far e) (programs.long far' e') = e ∙ sym e'
-  one_refusal a b some some' (programs.long far e) (programs.stream found within is e') = absurd (omega (arith, far, within))
+  one_refusal a b some some' (programs.long far e) (programs.streams within is) = absurd (omega (arith, far, within))
   one_refusal a b some some' (programs.long far e) (programs.many_packets demuxed within is many e') = absurd (omega (arith, far, within))
   one_refusal a b some some' (programs.long far e) (programs.taken_out demuxed within is few refused) = absurd (omega (arith, far, within))
-  one_refusal a b some some' (programs.stream found within is e) (programs.long far e') = absurd (omega (arith, far, within))
-  one_refusal a b some some' (programs.stream found within is e) (programs.stream found' within' is' e') =
-      e ∙ ap of_demux (demux_answers.one_refusal file number drop found found' (known_demux a found some e) (known_demux b found' some' e') is is') ∙ sym e'
-  one_refusal a b some some' (programs.stream found within is e) (programs.many_packets demuxed within' is' many e') =
-      absurd (known_demux a found some e (demux_answers.never_both file number drop demuxed found is' is))
-  one_refusal a b some some' (programs.stream found within is e) (programs.taken_out demuxed within' is' few refused) =
-      absurd (known_demux a found some e (demux_answers.never_both file number drop demuxed found is' is))
+  one_refusal a b some some' (programs.streams within is) (programs.long far e) = absurd (omega (arith, far, within))
+  one_refusal a b some some' (programs.streams within is) (programs.streams within' is') = streams_fault_one a b some some' is is'
+  one_refusal a b some some' (programs.streams within is) (programs.many_packets demuxed within' is' many e) = absurd (taken_or_refused demuxed a some is' is)
+  one_refusal a b some some' (programs.streams within is) (programs.taken_out demuxed within' is' few refused) = absurd (taken_or_refused demuxed a some is' is)
   one_refusal a b some some' (programs.many_packets demuxed within is many e) (programs.long far e') = absurd (omega (arith, far, within))
-  one_refusal a b some some' (programs.many_packets demuxed within is many e) (programs.stream found within' is' e') =
-      absurd (known_demux b found some' e' (demux_answers.never_both file number drop demuxed found is is'))
+  one_refusal a b some some' (programs.many_packets demuxed within is many e) (programs.streams within' is') = absurd (taken_or_refused demuxed b some' is is')
   one_refusal a b some some' (programs.many_packets demuxed within is many e) (programs.many_packets demuxed' within' is' many' e') = e ∙ sym e'
   one_refusal a b some some' (programs.many_packets demuxed within is many e) (programs.taken_out demuxed' within' is' few refused) =
       absurd (many (same_packets demuxed' demuxed is' is few))
   one_refusal a b some some' (programs.taken_out demuxed within is few refused) (programs.long far e) = absurd (omega (arith, far, within))
-  one_refusal a b some some' (programs.taken_out demuxed within is few refused) (programs.stream found within' is' e) =
-      absurd (known_demux b found some' e (demux_answers.never_both file number drop demuxed found is is'))
+  one_refusal a b some some' (programs.taken_out demuxed within is few refused) (programs.streams within' is') = absurd (taken_or_refused demuxed b some' is is')
   one_refusal a b some some' (programs.taken_out demuxed within is few refused) (programs.many_packets demuxed' within' is' many e) =
       absurd (many (same_packets demuxed demuxed' is is' few))
   one_refusal a b some some' (programs.taken_out demuxed within is few refused) (programs.taken_out demuxed' within' is' few' refused') =
-      let same : demuxed ≡ demuxed' = demux_answers.one_demuxed file number drop demuxed demuxed' is is' in
+      let same : demuxed ≡ demuxed' = one_taken_out demuxed demuxed' is is' in
       demuxed_refused_one demuxed' a b some some' (subst (λ (d : Demuxed). IsDemuxedRefused d a) same refused) refused'
 
-  either : (start : ℕ) (program : Program) (fault : ProgramFault) → fault ≢ OutOfMemory → IsProgramOfFile file number drop start program → IsProgramRefused file number drop fault → ⊥
+  either : (start : ℕ) (program : Program) (fault : ProgramFault) → fault ≢ OutOfMemory → IsProgramOfFile form file number drop start program → IsProgramRefused form file number drop fault → ⊥
   either start program fault some is (programs.memory e) = some e
   either start program fault some is (programs.long far e) = omega (arith, far, is.within)
-  either start program fault some is (programs.stream found within is' e) = known_demux fault found some e (demux_answers.never_both file number drop is.demuxed found is.demuxed_is is')
+  either start program fault some is (programs.streams within is') = taken_or_refused is.demuxed fault some is.demuxed_is is'
   either start program fault some is (programs.many_packets demuxed within is' many e) = many (same_packets is.demuxed demuxed is.demuxed_is is' is.few_packets)
   either start program fault some is (programs.taken_out demuxed within is' few refused) =
-      let same : demuxed ≡ is.demuxed = demux_answers.one_demuxed file number drop demuxed is.demuxed is' is.demuxed_is in
+      let same : demuxed ≡ is.demuxed = one_taken_out demuxed is.demuxed is' is.demuxed_is in
       refused_or_program is.demuxed start program fault some (subst (λ (d : Demuxed). IsDemuxedRefused d fault) same refused) is.program_is
 
-  pub never_both : (start : ℕ) (program : Program) (fault : ProgramFault) → IsProgramOfFile file number drop start program → IsProgramRefused file number drop fault → fault ≡ OutOfMemory
+  pub never_both : (start : ℕ) (program : Program) (fault : ProgramFault) → IsProgramOfFile form file number drop start program → IsProgramRefused form file number drop fault
+      → fault ≡ OutOfMemory
   never_both start program OutOfMemory is refused = refl
   never_both start program (Refused kind at) is refused = absurd (either start program (Refused kind at) (λ same. (let both : Refused kind at ≡ OutOfMemory = same in cc)) is refused)

@@ -60,7 +60,7 @@ use Rattle.pes_units.specs.PesPackets.{is_dropped}
 use Rattle.ts_demux.specs.declared.demuxed.AudioStream.{AudioStream}
 use Rattle.ts_demux.specs.declared.demuxed.Demuxed.{Demuxed}
 use Rattle.ts_demux.specs.declared.demuxed.PesUnit.{PesUnit}
-use Rattle.ts_demux.specs.Demux.{IsDemuxed}
+use Rattle.job_report.specs.declared.job.Form.{Form}
 use Rattle.program_reader.specs.declared.audio_stream.ReadStream.{ReadStream}
 use Rattle.program_reader.specs.declared.due.DueClock.{DueClock}
 use Rattle.program_reader.specs.declared.kept_units.KeptUnit.{KeptUnit}
@@ -77,7 +77,7 @@ use Rattle.program_reader.specs.declared.timed_picture.TimedPicture.{TimedPictur
 use Rattle.program_reader.specs.declared.video_stream.ReadVideo.{ReadVideo}
 use Rattle.program_reader.specs.Audio.{IsAudioFault, IsDue, AreAudioSources}
 use Rattle.program_reader.specs.Packets.{IsPacketFault, taken, packets_dropped, joined, placed_from}
-use Rattle.program_reader.specs.Programs.{HasFewPackets, video_bytes, video_packets, HasUnits, HasNoSequence, all_times, IsEarliest, IsBase, AreUnitSources, IsProgram, all_packets_dropped, IsDemuxedRefused, IsProgramRefused}
+use Rattle.program_reader.specs.Programs.{HasFewPackets, video_bytes, video_packets, HasUnits, HasNoSequence, all_times, IsEarliest, IsBase, AreUnitSources, IsProgram, all_packets_dropped, IsTakenOut, IsDemuxedRefused, IsProgramRefused}
 use Rattle.program_reader.specs.Units.{AreInOrder, AreKept, all, but_last, last_of, IsBroken, IsUnitsFault}
 use Rattle.program_reader.specs.Private.AudioStarts.{IsNear, AreStreamsRead}
 use Rattle.program_reader.specs.Private.Dues.{IsTime, IsTimeFrom, Lowers, AreDueUnits}
@@ -385,10 +385,10 @@ or_memory demuxed (Err fault) is = inr is
 -- ---- the program
 
 pub program_is : (start : ℕ) (demuxed : Demuxed) (video : ReadVideo) (streams : List ReadStream) (clock : DueClock) (rows : List KeptUnit) (given : List AudioStream) (base : ℕ) (bytes : List ℕ)
-    (units : List UnitSource) (audios : List AudioSource) (dropped : ℕ) → IsVideoRead demuxed video → AreStreamsRead video.first.stated demuxed.audios streams →
+    (units : List UnitSource) (audios : List AudioSource) (pes_dropped : ℕ) → IsVideoRead demuxed video → AreStreamsRead video.first.stated demuxed.audios streams →
     IsClockOf demuxed video streams clock.earliest → clock.start ≡ start → length video.units.items ≤ 4194304 → IsBase clock.start clock.earliest base → bytes ≡ video.taken.payload.items →
     rows ≡ video.units.items → AreDueUnits clock.start clock.earliest rows units → given ≡ demuxed.audios →
-    AreAudioSources clock.start clock.earliest given (map (λ one. one.frames) streams) audios → dropped ≡ sum_by (λ one. one.dropped) streams → IsProgram start demuxed (record {
+    AreAudioSources clock.start clock.earliest given (map (λ one. one.frames) streams) audios → IsProgram start demuxed (record {
       map = demuxed.map;
       base = base;
       vbv = video.first.seq.vbv;
@@ -396,11 +396,11 @@ pub program_is : (start : ℕ) (demuxed : Demuxed) (video : ReadVideo) (streams 
       units = units;
       audios = audios;
       units_dropped = video.units_dropped;
-      pes_dropped = video.taken.dropped + dropped;
+      pes_dropped = pes_dropped;
       rest = demuxed.rest;
       not_carried = demuxed.not_carried;
     })
-program_is start demuxed video streams clock rows given base bytes units audios dropped is are times start_is few base_is bytes_are rows_are due given_is sources sum =
+program_is start demuxed video streams clock rows given base bytes units audios pes_dropped is are times start_is few base_is bytes_are rows_are due given_is sources =
     let frames = map (λ (one : ReadStream). one.frames) streams in record {
       kept = is.kept;
       first = video.first;
@@ -420,7 +420,6 @@ program_is start demuxed video streams clock rows given base bytes units audios 
           (subst (λ (us : List KeptUnit). AreDueUnits clock.start clock.earliest us units) rows_are due));
       audios_are = subst (λ (n : ℕ). AreAudioSources n clock.earliest demuxed.audios frames audios) start_is
           (subst (λ (ss : List AudioStream). AreAudioSources clock.start clock.earliest ss frames audios) given_is sources);
-      pes_dropped_is = all_dropped demuxed video streams dropped is are sum;
       rest_is = refl;
       not_carried_are = refl;
     }
@@ -454,7 +453,7 @@ too_many demuxed video read units is are units_are many =
     IsDemuxedRefused.many_units is.kept video.first is.pictures video.units_dropped (map (λ one. one.frames) read) is.has_pictures
     (have_frames video.first.stated demuxed.audios read are) more refl
 
-pub taken_out : (file : List ℕ) (number : ℕ) (drop : List ℕ) (demuxed : Demuxed) (fault : ProgramFault) → length file ≤ FILE_BYTES_MOST → IsDemuxed file number drop demuxed → HasFewPackets demuxed →
-    (fault ≡ OutOfMemory) ⊎ IsDemuxedRefused demuxed fault → IsProgramRefused file number drop fault
-taken_out file number drop demuxed fault within is few (inl memory) = IsProgramRefused.memory memory
-taken_out file number drop demuxed fault within is few (inr refused) = IsProgramRefused.taken_out demuxed within is few refused
+pub taken_out : (form : Form) (file : List ℕ) (number : ℕ) (drop : List ℕ) (demuxed : Demuxed) (fault : ProgramFault) → length file ≤ FILE_BYTES_MOST →
+    IsTakenOut form file number drop demuxed → HasFewPackets demuxed → (fault ≡ OutOfMemory) ⊎ IsDemuxedRefused demuxed fault → IsProgramRefused form file number drop fault
+taken_out form file number drop demuxed fault within is few (inl memory) = IsProgramRefused.memory memory
+taken_out form file number drop demuxed fault within is few (inr refused) = IsProgramRefused.taken_out demuxed within is few refused

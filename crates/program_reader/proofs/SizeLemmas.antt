@@ -1,8 +1,8 @@
 -- How much the packets of a PID carry.
-use Rattle.std.proofs.Common.{◌≡◌, ℕ, suc, ◌+◌, ◌-◌, ◌*◌, ◌/◌, ◌≤◌, Bool, true, false, cond, List, [], ◌∷◌, ◌++◌, length, map, filter, drop, get_or, All, Option, Some, None, refl, ap, ◌∙◌, subst, arith}
+use Rattle.std.proofs.Common.{◌≡◌, ℕ, suc, ◌+◌, ◌-◌, ◌*◌, ◌/◌, ◌≤◌, Bool, true, false, cond, List, [], ◌∷◌, ◌++◌, length, map, filter, drop, get_or, All, Option, Some, None, refl, sym, ap, ◌∙◌, subst, arith}
 use Rattle.std.specs.List.{sum_by, filter_map, range_with_len}
 use Rattle.std.specs.Option.{is_none}
-use Rattle.std.proofs.lemmas.List.{length-append, length-drop, length-take}
+use Rattle.std.proofs.lemmas.List.{length-append, length-drop, length-take, length-map}
 use Rattle.std.proofs.lemmas.List.Elements.{All-map, All-cons, All-nil, All-tail}
 use Rattle.std.proofs.lemmas.List.FromFn.{length-range_with_len}
 use Rattle.std.proofs.lemmas.List.Sums.{sum_by-cons}
@@ -10,8 +10,12 @@ use Rattle.bit_lists.specs.Payload.{CarriedPayload, is_start}
 use Rattle.pes_units.specs.PesPackets.{Gathered, up_to_start, gathered}
 use Rattle.psi_tables.specs.declared.stream.Stream.{Stream}
 use Rattle.ts_demux.specs.declared.demuxed.AudioStream.{AudioStream}
+use Rattle.ts_demux.specs.declared.demuxed.Demuxed.{Demuxed}
 use Rattle.ts_demux.specs.declared.demuxed.PesUnit.{PesUnit}
-use Rattle.ts_demux.specs.Demux.{pes_packets_on}
+use Rattle.ts_demux.specs.Demux.{IsDemuxed, pes_packets_on}
+use Rattle.program_stream.specs.Split.{IsSplit}
+use Rattle.job_report.specs.declared.job.Form.{Form}
+use Rattle.program_reader.specs.Programs.{StandIn, in_packets, in_elements}
 use Rattle.ts_packets.specs.Carried.{PlacedPacket, placed, has_payload, payload_packets, is_repeat, not_repeated, without_repeats, carried_by, carried}
 use Rattle.ts_packets.specs.Packet.{PacketRecord, packet_of, transport_refusal, fields_of, has_field, adaptation_field_length}
 use Rattle.ts_packets.specs.TransportStream.{Piece, piece_count, is_of_pid, pid_pieces}
@@ -132,7 +136,7 @@ units_bytes (g ∷ gs) =
 abbrev pub IsSmall : List PesUnit → Type 0
 IsSmall units = sum_by (λ packet. length packet.bytes) units ≤ 1099511627776
 
-pub stream_small : (file : List ℕ) (stream : Stream) → length file ≤ 1099511627776 → IsSmall (pes_packets_on file stream).units
+stream_small : (file : List ℕ) (stream : Stream) → length file ≤ 1099511627776 → IsSmall (pes_packets_on file stream).units
 stream_small file stream within =
     let pieces = pid_pieces file stream.pid 0 (piece_count file) in
     let ks = filter (is_of_pid file stream.pid) (range_with_len 0 (piece_count file - 0)) in
@@ -147,6 +151,44 @@ stream_small file stream within =
     let cs_bytes : payload_bytes cs ≤ 188 * piece_count file = omega (arith, carried_bytes (without_repeats (payload_packets pieces)), once.1, full.1, all.1, few) in
     omega (arith, units_bytes (gathered cs), gathered_size cs, cs_bytes, count, within)
 
-pub audios_small : (file : List ℕ) (streams : List Stream) → length file ≤ 1099511627776 → All (λ (stream : AudioStream). IsSmall stream.units) (map (pes_packets_on file) streams)
+audios_small : (file : List ℕ) (streams : List Stream) → length file ≤ 1099511627776 → All (λ (stream : AudioStream). IsSmall stream.units) (map (pes_packets_on file) streams)
 audios_small file streams within =
     All-map (λ (stream : AudioStream). IsSmall stream.units) (pes_packets_on file) streams (λ k d lt. stream_small file (get_or streams k d) within)
+
+-- ---- the streams of a file of either form
+
+-- the laws of program streams
+abbrev pub VideoWithin : Type 0
+VideoWithin = (file drop : List ℕ) (demuxed : Demuxed) (cut : ℕ) → IsSplit file drop demuxed cut → sum_by (λ packet. length packet.bytes) demuxed.video ≤ length file
+
+abbrev pub AudiosWithin : Type 0
+AudiosWithin = (file drop : List ℕ) (demuxed : Demuxed) (cut : ℕ) → IsSplit file drop demuxed cut
+    → All (λ stream. sum_by (λ packet. length packet.bytes) stream.units ≤ length file) demuxed.audios
+
+abbrev pub FewWithin : Type 0
+FewWithin = (file drop : List ℕ) (demuxed : Demuxed) (cut : ℕ) → IsSplit file drop demuxed cut → length demuxed.audios ≤ 8
+
+abbrev pub CutWithin : Type 0
+CutWithin = (file drop : List ℕ) (demuxed : Demuxed) (cut : ℕ) → IsSplit file drop demuxed cut → cut ≤ 1
+
+pub video_small : VideoWithin → (form : Form) (file : List ℕ) (number : ℕ) (drop : List ℕ) (found : Demuxed) (cut : ℕ) → length file ≤ 1099511627776
+    → StandIn form file number drop found cut → IsSmall found.video
+video_small law form file number drop found cut within (in_packets ts is none) = subst (λ (units : List PesUnit). IsSmall units) (sym is.video_packets) (stream_small file is.video within)
+video_small law form file number drop found cut within (in_elements ps one is) = omega (arith, law file drop found cut is, within)
+
+pub audios_are_small : AudiosWithin → (form : Form) (file : List ℕ) (number : ℕ) (drop : List ℕ) (found : Demuxed) (cut : ℕ) → length file ≤ 1099511627776
+    → StandIn form file number drop found cut → All (λ (stream : AudioStream). IsSmall stream.units) found.audios
+audios_are_small law form file number drop found cut within (in_packets ts is none) =
+    subst (λ (streams : List AudioStream). All (λ (stream : AudioStream). IsSmall stream.units) streams) (sym is.audio_packets) (audios_small file is.audios within)
+audios_are_small law form file number drop found cut within (in_elements ps one is) = λ k d lt. (let small = law file drop found cut is k d lt in omega (arith, small, within))
+
+pub few_audios : FewWithin → (form : Form) (file : List ℕ) (number : ℕ) (drop : List ℕ) (found : Demuxed) (cut : ℕ) → StandIn form file number drop found cut → length found.audios ≤ 8
+few_audios law form file number drop found cut (in_packets ts is none) =
+    let streams : length found.map.streams.items ≡ length (is.video ∷ is.audios) = ap (λ (xs : List Stream). length xs) is.streams in
+    let audios : length found.audios ≡ length is.audios = ap (λ (xs : List AudioStream). length xs) is.audio_packets ∙ length-map is.audios (pes_packets_on file) in
+    omega (arith, streams, audios, is.few)
+few_audios law form file number drop found cut (in_elements ps one is) = law file drop found cut is
+
+pub one_cut : CutWithin → (form : Form) (file : List ℕ) (number : ℕ) (drop : List ℕ) (found : Demuxed) (cut : ℕ) → StandIn form file number drop found cut → cut ≤ 1
+one_cut law form file number drop found cut (in_packets ts is none) = omega (arith, none)
+one_cut law form file number drop found cut (in_elements ps one is) = law file drop found cut is

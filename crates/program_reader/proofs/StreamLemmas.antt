@@ -57,7 +57,8 @@ use Rattle.program_reader.specs.declared.pes_packets.TakenPackets.{TakenPackets}
 use Rattle.program_reader.specs.declared.program_fault.ProgramFault.{ProgramFault}
 use Rattle.program_reader.specs.Faults.{of_audio}
 use Rattle.program_reader.specs.Packets.{AreSound, taken, pes_payload_of, joined, packets_dropped, placed_from}
-use Rattle.program_reader.specs.Audio.{AreStartsOf, IsStreamRefused}
+use Rattle.program_reader.specs.Audio.{taken_of, AreStartsOf, IsStreamRefused}
+use Rattle.program_reader.specs.AudioTypes.{audio_type}
 use Rattle.program_reader.specs.Private.AudioStarts.{IsNear, AreNear, IsStreamRead}
 use Rattle.program_reader.specs.Private.TakenPackets.{AreTaken}
 use Rattle.program_reader.proofs.FrameTimes.{frames_near}
@@ -217,10 +218,11 @@ frames_refused first stream packets held placed payload starts given found fault
     (subst (λ (xs : List ℕ). IsAudioRefused xs starts found) payload_all (subst (λ (xs : List PesStart). IsAudioRefused payload xs found) same refused)) fault_is
 
 pub stream_read : (first : ℤ) (stream : AudioStream) (packets : List PesUnit) (held : TakenPackets) (placed : List PlacedPacket) (payload : List ℕ) (starts given : List PesStart)
-    (frames : List Frame) → packets ≡ stream.units → AreTaken false packets held → placed ≡ held.packets.items → payload ≡ held.payload.items → given ≡ starts →
-    AreStartsOf first placed starts → AreNear 4000000 starts → AreFramesOf payload given frames → length payload ≤ 1099511627776 →
-    IsStreamRead first stream (record { packets = held.packets; dropped = held.dropped; frames = frames })
-stream_read first stream packets held placed payload starts given frames packets_are are placed_is payload_is same starts_are near frames_are small =
+    (frames : List Frame) (whole : List ℕ) (kind : ℕ) → packets ≡ stream.units → AreTaken false packets held → placed ≡ held.packets.items → payload ≡ held.payload.items → given ≡ starts →
+    AreStartsOf first placed starts → AreNear 4000000 starts → AreFramesOf payload given frames → length payload ≤ 1099511627776 → whole ≡ held.payload.items →
+    ((one : AudioStream) → whole ≡ joined (taken_of one) → kind ≡ audio_type one) →
+    IsStreamRead first stream (record { packets = held.packets; dropped = held.dropped; frames = frames; kind = kind })
+stream_read first stream packets held placed payload starts given frames whole kind packets_are are placed_is payload_is same starts_are near frames_are small whole_is typed =
     let taken_is : taken false packets ≡ taken false stream.units = ap (taken false) packets_are in
     let placed_all : placed ≡ placed_from 0 (taken false stream.units) = placed_is ∙ are.holds.placed ∙ ap (placed_from 0) taken_is in
     let payload_all : payload ≡ joined (taken false stream.units) = payload_is ∙ are.holds.payload ∙ ap joined taken_is in
@@ -234,4 +236,5 @@ stream_read first stream packets held placed payload starts given frames packets
         frames_are = subst (λ (xs : List ℕ). AreFramesOf xs starts frames) payload_all of_starts;
       };
       ticks = frames_near payload starts frames of_starts near small;
+      kind_is = typed stream (whole_is ∙ are.holds.payload ∙ ap joined taken_is);
     }

@@ -1,5 +1,5 @@
 -- Audio streams, one more behind those before.
-use Rattle.std.proofs.Common.{◌≡◌, ◌⊎◌, ℕ, suc, ◌+◌, ◌<◌, List, [], ◌∷◌, ◌++◌, length, sym, ap, ◌∙◌, subst, inl, inr, map, take, drop, get_or, ℤ}
+use Rattle.std.proofs.Common.{◌≡◌, ◌⊎◌, ℕ, suc, ◌+◌, ◌<◌, List, [], ◌∷◌, ◌++◌, length, refl, sym, ap, ap₂, ◌∙◌, subst, inl, inr, map, take, drop, get_or, ℤ}
 use Rattle.std.proofs.Math.Seq.{split_at}
 use Rattle.std.proofs.lemmas.List.{take_more}
 use Rattle.ts_demux.specs.declared.demuxed.AudioStream.{AudioStream}
@@ -7,6 +7,7 @@ use Rattle.program_reader.specs.declared.audio_stream.ReadStream.{ReadStream}
 use Rattle.program_reader.specs.declared.program_fault.ProgramFault.{ProgramFault}
 use Rattle.program_reader.specs.declared.program_fault.ProgramFault.TheVariants.{OutOfMemory}
 use Rattle.program_reader.specs.Audio.{HaveFrames, IsAudioFault, IsStreamRefused}
+use Rattle.program_reader.specs.AudioTypes.{audio_type}
 use Rattle.program_reader.specs.Private.AudioStarts.{IsStreamRead, AreStreamsRead}
 
 pub streams_push : (first : ℤ) (streams : List AudioStream) (read : List ReadStream) (stream : AudioStream) (one : ReadStream) → AreStreamsRead first streams read →
@@ -23,6 +24,13 @@ have_frames first [] [] are = tt
 have_frames first [] (r ∷ rs) are = absurd are
 have_frames first (s ∷ ss) [] are = absurd are
 have_frames first (s ∷ ss) (r ∷ rs) are = (are.0.frames_are, have_frames first ss rs are.1)
+
+-- their types
+pub types_are : (first : ℤ) (streams : List AudioStream) (read : List ReadStream) → AreStreamsRead first streams read → map (λ one. one.kind) read ≡ map audio_type streams
+types_are first [] [] are = refl
+types_are first [] (r ∷ rs) are = absurd are
+types_are first (s ∷ ss) [] are = absurd are
+types_are first (s ∷ ss) (r ∷ rs) are = ap₂ (λ (n : ℕ) (ns : List ℕ). n ∷ ns) are.0.kind_is (types_are first ss rs are.1)
 
 pub streams_more : (first : ℤ) (streams : List AudioStream) (i : ℕ) (read news : List ReadStream) (stream : AudioStream) (one : ReadStream) → i < length streams →
     stream ≡ get_or streams i stream → news ≡ read ++ one ∷ [] → AreStreamsRead first (take i streams) read → IsStreamRead first stream one → AreStreamsRead first (take (i + 1) streams) news

@@ -2,6 +2,8 @@
 use Rattle.std.specs.Prelude.{ℕ}
 use Rattle.ts_demux.specs.declared.demux_fault.DemuxFault.{DemuxFault}
 use Rattle.ts_demux.specs.declared.demux_fault.DemuxFault.TheVariants as demux_faults
+use Rattle.program_stream.specs.declared.split_fault.SplitFault.{SplitFault}
+use Rattle.program_stream.specs.declared.split_fault.SplitFault.TheVariants as split_faults
 use Rattle.pes_units.specs.declared.pes_fault.PesFault.{PesFault}
 use Rattle.pes_units.specs.declared.pes_fault.PesFault.TheVariants as pes_faults
 use Rattle.picture_grammar.specs.Refusal.{Refusal}
@@ -30,6 +32,16 @@ of_demux (demux_faults.NoVideo at) = Refused kinds.NoVideo at
 of_demux (demux_faults.ProgramLimit at) = Refused kinds.ProgramLimit at
 of_demux (demux_faults.PmtTooLong at) = Refused kinds.PmtTooLong at
 of_demux demux_faults.OutOfMemory = OutOfMemory
+
+-- what the elements and streams of a program stream are refused for
+abbrev pub of_split : SplitFault → ProgramFault
+of_split (split_faults.ShortFile at) = Refused kinds.ShortFile at
+of_split (split_faults.BadStart at) = Refused kinds.BadStart at
+of_split (split_faults.BadPack at) = Refused kinds.BadPack at
+of_split (split_faults.BadLength at) = Refused kinds.BadLength at
+of_split (split_faults.NoVideo at) = Refused kinds.NoVideo at
+of_split (split_faults.ProgramLimit at) = Refused kinds.ProgramLimit at
+of_split split_faults.OutOfMemory = OutOfMemory
 
 -- what a PES packet at a place of the file is refused for
 abbrev pub of_pes : ℕ → PesFault → ProgramFault

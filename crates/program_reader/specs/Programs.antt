@@ -1,5 +1,5 @@
 -- The program of a file, and the first refusal of a file, in the order of reading (this project's).
-use Rattle.std.specs.Prelude.{◌≡◌, ◌⊎◌, ℕ, ◌+◌, ◌-◌, ◌*◌, ◌^◌, ◌<◌, ◌≤◌, min, true, false, List, [], ◌∷◌, ◌++◌, length, map, All, Contains, Some, None, ℤ, pos, ◌+ℤ◌, ◌-ℤ◌, ◌*ℤ◌, ◌≤ℤ◌}
+use Rattle.std.specs.Prelude.{◌≡◌, ◌≢◌, ◌⊎◌, ℕ, ◌+◌, ◌-◌, ◌*◌, ◌^◌, ◌<◌, ◌≤◌, min, true, false, List, [], ◌∷◌, ◌++◌, length, map, All, Contains, Some, None, ℤ, pos, ◌+ℤ◌, ◌-ℤ◌, ◌*ℤ◌, ◌≤ℤ◌}
 use Rattle.std.specs.List.{flat_map, sum_by}
 use Rattle.stream_constants.specs.declared.clock.TheConstants.{TICKS_PER_TIME_UNIT}
 use Rattle.audio_frames.specs.declared.frame.Frame.{Frame}
@@ -9,6 +9,11 @@ use Rattle.picture_grammar.specs.Refusal.{Refusal}
 use Rattle.ts_demux.specs.declared.demux_fault.DemuxFault.{DemuxFault}
 use Rattle.ts_demux.specs.declared.demuxed.Demuxed.{Demuxed}
 use Rattle.ts_demux.specs.Demux.{IsDemuxed, IsDemuxRefused}
+use Rattle.program_stream.specs.declared.split_fault.SplitFault.{SplitFault}
+use Rattle.program_stream.specs.Elements.{Element}
+use Rattle.program_stream.specs.Split.{HasElements, IsSplit, IsSplitRefused}
+use Rattle.job_report.specs.declared.job.Form.{Form}
+use Rattle.job_report.specs.declared.job.Form.TheVariants.{Ts, Ps}
 use Rattle.program_reader.specs.declared.limits.TheConstants.{FILE_BYTES_MOST, PES_PACKETS_MOST, UNITS_MOST}
 use Rattle.program_reader.specs.declared.pes_packets.PlacedPacket.{PlacedPacket}
 use Rattle.program_reader.specs.declared.program.Program.{Program}
@@ -17,10 +22,26 @@ use Rattle.program_reader.specs.declared.program_fault.ProgramFault.{ProgramFaul
 use Rattle.program_reader.specs.declared.program_fault.ProgramFault.TheVariants.{Refused, OutOfMemory}
 use Rattle.program_reader.specs.declared.program_fault.SourceKind.TheVariants as kinds
 use Rattle.program_reader.specs.declared.timed_picture.TimedPicture.{TimedPicture}
-use Rattle.program_reader.specs.Faults.{of_demux}
+use Rattle.program_reader.specs.Faults.{of_demux, of_split}
 use Rattle.program_reader.specs.Packets.{AreSound, IsPacketFault, taken, packets_dropped, joined, placed_from}
 use Rattle.program_reader.specs.Units.{AreKept, IsBroken, IsUnitsFault}
 use Rattle.program_reader.specs.Audio.{HaveFrames, IsAudioFault, IsDue, AreAudioSources}
+use Rattle.program_reader.specs.AudioTypes.{typed}
+
+-- ---- what is taken out of a file
+
+-- These streams of the program of a number stand in a file of a form, without the audio streams that are to be dropped, and so many last elements of the
+-- file are cut by its end: of a transport stream none. A program stream has one program, of number 1.
+pub data StandIn (form : Form) (file : List ℕ) (number : ℕ) (drop : List ℕ) (found : Demuxed) (cut : ℕ) : Type 0 where
+  in_packets : form ≡ Ts → IsDemuxed file number drop found → cut ≡ 0 → StandIn form file number drop found cut
+  in_elements : form ≡ Ps → number ≡ 1 → IsSplit file drop found cut → StandIn form file number drop found cut
+
+-- What is taken out of a file: the streams that stand in it, in the map of a program stream each audio stream with the type of its first frame.
+pub record IsTakenOut (form : Form) (file : List ℕ) (number : ℕ) (drop : List ℕ) (demuxed : Demuxed) : Type 0 where
+  pub found : Demuxed
+  pub cut : ℕ
+  pub stand : StandIn form file number drop found cut
+  pub typed_is : demuxed ≡ typed form found
 
 -- ---- the video
 
@@ -88,7 +109,7 @@ AreUnitSources start earliest units pictures sources = ⊥
 abbrev pub all_packets_dropped : Demuxed → ℕ
 all_packets_dropped demuxed = packets_dropped true demuxed.video + sum_by (λ stream. packets_dropped false stream.units) demuxed.audios
 
--- The program of what is taken out of a file, with its earliest time due at `start`.
+-- The program of what is taken out of a file, with its earliest time due at `start`, but for how many PES packets are dropped.
 pub record IsProgram (start : ℕ) (demuxed : Demuxed) (program : Program) : Type 0 where
   pub kept : List (ℕ × ℕ)
   pub first : TimedPicture
@@ -105,7 +126,6 @@ pub record IsProgram (start : ℕ) (demuxed : Demuxed) (program : Program) : Typ
   pub video_is : program.video ≡ video_bytes demuxed
   pub units_are : AreUnitSources start earliest kept pictures program.units
   pub audios_are : AreAudioSources start earliest demuxed.audios frames program.audios
-  pub pes_dropped_is : program.pes_dropped ≡ all_packets_dropped demuxed
   pub rest_is : program.rest ≡ demuxed.rest
   pub not_carried_are : program.not_carried ≡ demuxed.not_carried
 
@@ -113,13 +133,15 @@ pub record IsProgram (start : ℕ) (demuxed : Demuxed) (program : Program) : Typ
 abbrev pub HasFewPackets : Demuxed → Type 0
 HasFewPackets demuxed = (length demuxed.video ≤ PES_PACKETS_MOST) × All (λ stream. length stream.units ≤ PES_PACKETS_MOST) demuxed.audios
 
--- the program of this number in a file, without the audio streams of some PIDs
-pub record IsProgramOfFile (file : List ℕ) (number : ℕ) (drop : List ℕ) (start : ℕ) (program : Program) : Type 0 where
+-- The program of this number in a file of a form, without the audio streams of some PIDs or stream ids. A last element that the file's end cuts is a
+-- PES packet that is dropped.
+pub record IsProgramOfFile (form : Form) (file : List ℕ) (number : ℕ) (drop : List ℕ) (start : ℕ) (program : Program) : Type 0 where
   pub within : length file ≤ FILE_BYTES_MOST
   pub demuxed : Demuxed
-  pub demuxed_is : IsDemuxed file number drop demuxed
+  pub demuxed_is : IsTakenOut form file number drop demuxed
   pub few_packets : HasFewPackets demuxed
   pub program_is : IsProgram start demuxed program
+  pub pes_dropped_is : program.pes_dropped ≡ all_packets_dropped demuxed + demuxed_is.cut
 
 -- ---- what is refused
 
@@ -135,14 +157,28 @@ pub data IsDemuxedRefused (demuxed : Demuxed) (fault : ProgramFault) : Type 0 wh
       → HasPictures demuxed kept first pictures dropped → HaveFrames first.stated demuxed.audios frames → UNITS_MOST < length kept
       → fault ≡ Refused kinds.ProgramLimit 0 → IsDemuxedRefused demuxed fault
 
--- The first refusal of a file: its length; its transport packets and tables; the number of PES packets of a carried stream; then what is taken out of
--- it. Want of memory may come at any time.
-pub data IsProgramRefused (file : List ℕ) (number : ℕ) (drop : List ℕ) (fault : ProgramFault) : Type 0 where
-  long : FILE_BYTES_MOST < length file → fault ≡ Refused kinds.ProgramLimit 0 → IsProgramRefused file number drop fault
-  stream : (found : DemuxFault) → length file ≤ FILE_BYTES_MOST → IsDemuxRefused file number drop found → fault ≡ of_demux found
-      → IsProgramRefused file number drop fault
-  many_packets : (demuxed : Demuxed) → length file ≤ FILE_BYTES_MOST → IsDemuxed file number drop demuxed → ¬ HasFewPackets demuxed
-      → fault ≡ Refused kinds.ProgramLimit 0 → IsProgramRefused file number drop fault
-  taken_out : (demuxed : Demuxed) → length file ≤ FILE_BYTES_MOST → IsDemuxed file number drop demuxed → HasFewPackets demuxed → IsDemuxedRefused demuxed fault
-      → IsProgramRefused file number drop fault
-  memory : fault ≡ OutOfMemory → IsProgramRefused file number drop fault
+-- A program stream whose elements aren't refused has another number than this: its one program has number 1.
+pub record HasOtherNumber (file : List ℕ) (number : ℕ) : Type 0 where
+  pub elements : List Element
+  pub cut : ℕ
+  pub elements_are : HasElements file elements cut
+  pub other : number ≢ 1
+
+-- What refuses the streams of a file, by its form: its transport packets and tables; or its length and elements, then another number than 1, and then its
+-- streams.
+pub data AreStreamsRefused (form : Form) (file : List ℕ) (number : ℕ) (drop : List ℕ) (fault : ProgramFault) : Type 0 where
+  of_packets : (found : DemuxFault) → form ≡ Ts → IsDemuxRefused file number drop found → fault ≡ of_demux found → AreStreamsRefused form file number drop fault
+  no_program : form ≡ Ps → HasOtherNumber file number → fault ≡ Refused kinds.NoProgram 0 → AreStreamsRefused form file number drop fault
+  of_elements : (found : SplitFault) → form ≡ Ps → ¬ HasOtherNumber file number → IsSplitRefused file drop found → fault ≡ of_split found
+      → AreStreamsRefused form file number drop fault
+
+-- The first refusal of a file: its length; its streams; the number of PES packets of a carried stream; then what is taken out of it. Want of memory may
+-- come at any time.
+pub data IsProgramRefused (form : Form) (file : List ℕ) (number : ℕ) (drop : List ℕ) (fault : ProgramFault) : Type 0 where
+  long : FILE_BYTES_MOST < length file → fault ≡ Refused kinds.ProgramLimit 0 → IsProgramRefused form file number drop fault
+  streams : length file ≤ FILE_BYTES_MOST → AreStreamsRefused form file number drop fault → IsProgramRefused form file number drop fault
+  many_packets : (demuxed : Demuxed) → length file ≤ FILE_BYTES_MOST → IsTakenOut form file number drop demuxed → ¬ HasFewPackets demuxed
+      → fault ≡ Refused kinds.ProgramLimit 0 → IsProgramRefused form file number drop fault
+  taken_out : (demuxed : Demuxed) → length file ≤ FILE_BYTES_MOST → IsTakenOut form file number drop demuxed → HasFewPackets demuxed
+      → IsDemuxedRefused demuxed fault → IsProgramRefused form file number drop fault
+  memory : fault ≡ OutOfMemory → IsProgramRefused form file number drop fault

@@ -6,6 +6,7 @@ ghost use Rattle.program_reader.specs.Audio.{IsAudioFault, IsStreamRefused};
 ghost use Rattle.program_reader.specs.Private.AudioStarts.{IsNear, IsStreamRead, AreStreamsRead};
 
 use crate::audio_starts::{AxisTime, audio_starts};
+use crate::audio_types::audio_type;
 use crate::limits::{FILE_BYTES_MOST, PES_PACKETS_MOST};
 use crate::pes_packets::{PlacedPacket, TakenPackets, take_packets};
 use crate::program_fault::{ProgramFault, audio_refused};
@@ -21,6 +22,8 @@ pub struct ReadStream {
     pub packets: Vec<PlacedPacket>,
     pub dropped: u32,
     pub frames: ListOf<Frame>,
+    /// The `stream_type` that its first frame tells.
+    pub kind: u8,
 }
 
 /// Reads an audio stream of a program whose video begins at a time. An error is the first fault of its PES packets, or else
@@ -43,6 +46,7 @@ pub fn read_stream(
     let read = frames(alloc, taken.payload.as_slice(), starts.as_slice());
     match read {
         Ok(frames) => {
+            let kind = audio_type(taken.payload.as_slice());
             let TakenPackets {
                 packets,
                 dropped,
@@ -52,6 +56,7 @@ pub fn read_stream(
                 packets,
                 dropped,
                 frames,
+                kind,
             })
         }
         Err(fault) => Err(audio_refused(fault)),

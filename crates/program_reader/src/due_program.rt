@@ -1,8 +1,8 @@
 //! A program of streams that are read.
-ghost use Rattle.std.specs.Prelude.{◌≡◌, ◌≤◌, ◌<◌, ◌^◌, List, length, map, All, IfOk};
+ghost use Rattle.std.specs.Prelude.{◌≡◌, ◌+◌, ◌≤◌, ◌<◌, ◌^◌, List, length, map, All, IfOk};
 ghost use Rattle.std.specs.List.{sum_by};
 ghost use Rattle.ts_demux.specs.declared.demuxed.PesUnit.{PesUnit};
-ghost use Rattle.program_reader.specs.Programs.{IsProgram};
+ghost use Rattle.program_reader.specs.Programs.{IsProgram, all_packets_dropped};
 ghost use Rattle.program_reader.specs.Sizes.{stands_at};
 ghost use Rattle.program_reader.specs.Private.AudioStarts.{AreStreamsRead};
 ghost use Rattle.program_reader.specs.Private.SizedUnits.{kept_at};
@@ -27,6 +27,8 @@ pub struct BesideVideo {
     pub audios: ListOf<AudioStream>,
     pub rest: u8,
     pub not_carried: ListOf<u16>,
+    /// How many last elements of the file its end cuts.
+    pub cut: u32,
 }
 
 /// The program of streams that are read, its earliest time due at `start`.
@@ -41,10 +43,13 @@ pub fn due_program(
     requires audios_few { All (λ stream. length stream.units ≤ PES_PACKETS_MOST) beside.audios }
     requires audios_small { All (λ stream. sum_by (λ packet. length packet.bytes) stream.units ≤ FILE_BYTES_MOST) beside.audios }
     requires few_audios { length beside.audios ≤ AUDIOS_MOST }
+    requires cut { beside.cut ≤ 1 }
     requires video { (packets : List PesUnit) × IsVideoRead (with_video beside packets) video }
     requires streams { AreStreamsRead video.first.stated beside.audios streams.now }
     requires few { length video.units.items ≤ UNITS_MOST }
     ensures program { (packets : List PesUnit) → IsVideoRead (with_video beside packets) video → IfOk result (IsProgram start (with_video beside packets)) }
+    ensures dropped { (packets : List PesUnit) → IsVideoRead (with_video beside packets) video
+        → IfOk result (λ program. program.pes_dropped ≡ all_packets_dropped (with_video beside packets) + beside.cut) }
     ensures bytes { IfOk result (λ program. program.video ≡ video.taken.payload.items) }
     ensures places { IfOk result (λ program. map stands_at program.units ≡ map kept_at video.units.items) }
 {
@@ -60,7 +65,7 @@ pub fn due_program(
         units,
         audios,
         units_dropped: video.units_dropped,
-        pes_dropped: video.taken.dropped + audio_packets_dropped(streams),
+        pes_dropped: video.taken.dropped + audio_packets_dropped(streams) + beside.cut,
         rest: beside.rest,
         not_carried: beside.not_carried,
         video: video.into_bytes(),

@@ -1,19 +1,21 @@
-//! A program of a transport stream is read: its video units and audio packets with the times at which a decoder wants them.
+//! A program of a transport stream or a program stream is read: its video units and audio packets with the times at which a decoder wants them.
 //!
 //! `read_program` answers a program, or the first refusal of its file with its place: one answer alone, by `laws::one_answer`.
 //! `read_sized_program` answers the sizes of all versions of its units too, and reads each unit once for both. `unit_weight` says by
 //! how much a unit's distortions count. The steps stand in a file each.
-//! Stands on `ts_demux`, `pes_units`, `es_units`, `audio_frames`, `picture_reader`, `version_maker`, `job_report` and those below
+//! Stands on `ts_demux`, `program_stream`, `pes_units`, `es_units`, `audio_frames`, `picture_reader`, `version_maker`, `job_report` and those below
 //! them.
 #![tactic(auto)]
 
 mod audio_sources;
 mod audio_starts;
 mod audio_stream;
+mod audio_types;
 mod carry;
 mod cut_places;
 mod due;
 mod due_program;
+mod found_streams;
 mod frame_walk;
 mod kept_units;
 pub mod laws;

@@ -39,7 +39,7 @@ pub struct AudioSource {
     pub pieces: ListOf<AudioPiece>,
 }
 
-/// A program of a transport stream.
+/// A program of a file.
 #[derive(Drop)]
 pub struct Program {
     /// The carried streams, the video first.
@@ -56,10 +56,10 @@ pub struct Program {
     pub audios: ListOf<AudioSource>,
     /// How many coded pictures were dropped at both ends.
     pub units_dropped: u32,
-    /// How many cut PES packets were dropped.
+    /// How many cut PES packets were dropped, a cut last element of a program stream among them.
     pub pes_dropped: u32,
-    /// Bytes behind the last whole transport packet.
+    /// Bytes behind the last whole transport packet; 0 of a program stream.
     pub rest: u8,
-    /// The PIDs of the program's other streams, in order.
+    /// The PIDs, or stream ids, of the program's other streams, in order.
     pub not_carried: ListOf<u16>,
 }

@@ -1,9 +1,10 @@
 ghost use Rattle.std.specs.Prelude.{◌≡◌};
-ghost use Rattle.program_reader.specs.Faults.{of_demux, of_pes, of_audio};
+ghost use Rattle.program_reader.specs.Faults.{of_demux, of_split, of_pes, of_audio};
 
 use audio_frames::AudioFault;
 use list_types::OutOfMemory;
 use pes_units::PesFault;
+use program_stream::SplitFault;
 use std::alloc::{AllocError, AllocFailed};
 use thiserror::Error;
 use ts_demux::DemuxFault;
@@ -11,7 +12,7 @@ use ts_demux::DemuxFault;
 /// What a program is refused for.
 #[derive(Clone, Copy, Debug, PartialEq, Eq)]
 pub enum SourceKind {
-    /// The file is shorter than a transport packet.
+    /// The file is shorter than a transport packet, or than a pack header of a program stream.
     ShortFile,
     /// A transport packet without the sync byte.
     Sync,
@@ -31,7 +32,7 @@ pub enum SourceKind {
     BadCrc,
     /// No current PAT section.
     NoPat,
-    /// No current PAT section names the program.
+    /// No current PAT section names the program; or the program of a program stream, whose number is 1, has another one.
     NoProgram,
     /// No current PMT section of the program.
     NoPmt,
@@ -39,13 +40,17 @@ pub enum SourceKind {
     NoVideo,
     /// The PMT section of the carried streams wouldn't stand in one packet.
     PmtTooLong,
+    /// No start code of an element of a program stream where one must stand.
+    BadStart,
+    /// A pack header that isn't one of MPEG-2, as those of MPEG-1 aren't.
+    BadPack,
     /// No start code prefix with a stream id of the kind of stream.
     BadPrefix,
     /// A PES header that passes its packet, or nothing behind it.
     Short,
     /// A marker bit of a PES header, or its length, is wrong.
     BadMarker,
-    /// A PES packet isn't as long as it states.
+    /// A PES packet isn't as long as it states, or one of a program stream states no length.
     BadLength,
     /// No unit is left.
     NoSequence,
@@ -94,7 +99,7 @@ pub enum SourceKind {
 /// Why a program isn't read: the first of what refuses it in the order of reading, and its place.
 #[derive(Clone, Copy, Debug, PartialEq, Eq, Error)]
 pub enum ProgramFault {
-    /// For transport packets, sections and PES packets the place is a byte of the file, for video one of the video's bytes,
+    /// For transport packets, sections, elements of a program stream and PES packets the place is a byte of the file, for video one of the video's bytes,
     /// for audio one of the joined payload of its stream; 0 for what has no place.
     #[error("{kind:?} at byte {at}")]
     Refused { kind: SourceKind, at: u64 },
@@ -157,6 +162,22 @@ pub(crate) fn demux_refused(fault: DemuxFault) -> ProgramFault
         DemuxFault::ProgramLimit { at } => (SourceKind::ProgramLimit, at),
         DemuxFault::PmtTooLong { at } => (SourceKind::PmtTooLong, at),
         DemuxFault::OutOfMemory => return ProgramFault::OutOfMemory,
+    };
+    ProgramFault::Refused { kind, at }
+}
+
+/// What the elements and streams of a program stream are refused for.
+pub(crate) fn split_refused(fault: SplitFault) -> ProgramFault
+    ensures { result ≡ of_split fault }
+{
+    let (kind, at) = match fault {
+        SplitFault::ShortFile { at } => (SourceKind::ShortFile, at),
+        SplitFault::BadStart { at } => (SourceKind::BadStart, at),
+        SplitFault::BadPack { at } => (SourceKind::BadPack, at),
+        SplitFault::BadLength { at } => (SourceKind::BadLength, at),
+        SplitFault::NoVideo { at } => (SourceKind::NoVideo, at),
+        SplitFault::ProgramLimit { at } => (SourceKind::ProgramLimit, at),
+        SplitFault::OutOfMemory => return ProgramFault::OutOfMemory,
     };
     ProgramFault::Refused { kind, at }
 }

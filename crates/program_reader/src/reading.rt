@@ -1,23 +1,27 @@
 //! The program of a file.
-ghost use Rattle.std.specs.Prelude.{◌≡◌, ◌⊎◌, ◌≤◌, ◌<◌, ◌^◌, ◌↔◌, [], true, IsTrue, length, All, IfOk, MatchResult};
+ghost use Rattle.std.specs.Prelude.{◌≡◌, ◌⊎◌, ◌+◌, ◌≤◌, ◌<◌, ◌^◌, ◌↔◌, [], true, IsTrue, length, All, IfOk, MatchResult};
 ghost use Rattle.std.specs.List.{sum_by};
 ghost use Rattle.program_reader.specs.declared.program_fault.ProgramFault.TheVariants.{OutOfMemory};
-ghost use Rattle.program_reader.specs.Programs.{HasFewPackets, IsProgram, IsDemuxedRefused, IsProgramOfFile, IsProgramRefused};
+ghost use Rattle.program_reader.specs.Programs.{all_packets_dropped, HasFewPackets, IsProgram, IsDemuxedRefused, IsProgramOfFile, IsProgramRefused};
+ghost use Rattle.program_reader.specs.AudioTypes.{typed};
 ghost use Rattle.program_reader.specs.Sizes.{AreProgramSizes};
 
 use crate::audio_stream::read_streams;
+use crate::audio_types::map_by_form;
 use crate::due_program::{BesideVideo, due_program};
+use crate::found_streams::{FoundStreams, find_streams};
 use crate::limits::{FILE_BYTES_MOST, PES_PACKETS_MOST, UNITS_MOST};
 use crate::program::Program;
-use crate::program_fault::{ProgramFault, SourceKind, demux_refused};
+use crate::program_fault::{ProgramFault, SourceKind};
 use crate::stream_sizes::stream_sizes;
 use crate::unit_sizes::{SizesWanted, UnitSizes};
 use crate::video_stream::read_video;
+use job_report::Form;
 use job_report::limits::START_MOST;
 use list_types::ListOf;
 use std::alloc::Global;
 use stream_constants::limits::AUDIOS_MOST;
-use ts_demux::{AudioStream, Demuxed, demux};
+use ts_demux::{AudioStream, Demuxed};
 use version_table::limits::VERSIONS_MOST;
 
 /// What is said of a limit that is passed.
@@ -34,26 +38,27 @@ pub struct SizedProgram {
     pub sizes: ListOf<UnitSizes>,
 }
 
-/// Reads a program of a transport stream: its units and audio packets with the times at which a decoder wants them, the earliest
-/// one at `start`, without the audio streams whose PIDs are in `drop`. An error is the first refusal of the file in the order of
-/// reading, with its place, or want of memory. Beside the file at most twice the payload of the carried streams is held, and a record a
+/// Reads a program of a file of a form: its units and audio packets with the times at which a decoder wants them, the earliest one at
+/// `start`, without the audio streams whose PIDs, or stream ids of a program stream, are in `drop`. An error is the first refusal of the
+/// file in the order of reading, with its place, or want of memory. Beside the file at most twice the payload of the carried streams is held, and a record a
 /// packet, unit and frame.
 pub fn read_program(
     alloc: Global,
     file: &[u8],
+    form: Form,
     number: u16,
     drop: &[u16],
     start: u64,
 ) -> Result<Program, ProgramFault>
     requires start { start ≤ START_MOST }
-    ensures { MatchResult result (IsProgramOfFile file.now number drop.now start) (IsProgramRefused file.now number drop.now) }
+    ensures { MatchResult result (IsProgramOfFile form file.now number drop.now start) (IsProgramRefused form file.now number drop.now) }
 {
     let wanted = SizesWanted {
         are_wanted: false,
         coarser: &[],
     };
     let mut sizes = Vec::new(alloc);
-    match program_in(alloc, file, number, drop, start, &wanted, &mut sizes) {
+    match program_in(alloc, file, form, number, drop, start, &wanted, &mut sizes) {
         Ok(program) => Ok(program),
         Err(fault) => Err(fault),
     }
@@ -64,6 +69,7 @@ pub fn read_program(
 pub fn read_sized_program(
     alloc: Global,
     file: &[u8],
+    form: Form,
     number: u16,
     drop: &[u16],
     start: u64,
@@ -71,7 +77,7 @@ pub fn read_sized_program(
 ) -> Result<SizedProgram, ProgramFault>
     requires start { start ≤ START_MOST }
     requires coarser { length coarser.now < VERSIONS_MOST }
-    ensures program { MatchResult result (λ sized. IsProgramOfFile file.now number drop.now start sized.program) (IsProgramRefused file.now number drop.now) }
+    ensures program { MatchResult result (λ sized. IsProgramOfFile form file.now number drop.now start sized.program) (IsProgramRefused form file.now number drop.now) }
     ensures sizes { IfOk result (λ sized. AreProgramSizes sized.program coarser.now sized.sizes) }
 {
     let wanted = SizesWanted {
@@ -79,7 +85,7 @@ pub fn read_sized_program(
         coarser,
     };
     let mut sizes = Vec::new(alloc);
-    match program_in(alloc, file, number, drop, start, &wanted, &mut sizes) {
+    match program_in(alloc, file, form, number, drop, start, &wanted, &mut sizes) {
         Ok(program) => Ok(SizedProgram {
             program,
             sizes: ListOf::from_vec(sizes),
@@ -92,6 +98,7 @@ pub fn read_sized_program(
 fn program_in(
     alloc: Global,
     file: &[u8],
+    form: Form,
     number: u16,
     drop: &[u16],
     start: u64,
@@ -101,21 +108,21 @@ fn program_in(
     requires start { start ≤ START_MOST }
     requires coarser { length wanted.now.coarser.now < VERSIONS_MOST }
     requires none { sizes.old.items ≡ [] }
-    ensures program { MatchResult result (IsProgramOfFile file.now number drop.now start) (IsProgramRefused file.now number drop.now) }
+    ensures program { MatchResult result (IsProgramOfFile form file.now number drop.now start) (IsProgramRefused form file.now number drop.now) }
     ensures sizes { IfOk result (λ program. wanted.now.are_wanted ≡ true → AreProgramSizes program wanted.now.coarser.now sizes.new.items) }
 {
     if file.len() > FILE_BYTES_MOST {
         return Err(PROGRAM_LIMIT);
     }
     stream_sizes();
-    let demuxed = match demux(alloc, file, number, drop) {
-        Ok(demuxed) => demuxed,
-        Err(fault) => return Err(demux_refused(fault)),
+    let found = match find_streams(alloc, file, form, number, drop) {
+        Ok(found) => found,
+        Err(fault) => return Err(fault),
     };
-    if !has_few_packets(&demuxed) {
+    if !has_few_packets(&found.demuxed) {
         return Err(PROGRAM_LIMIT);
     }
-    match program_of(alloc, demuxed, start, wanted, sizes) {
+    match program_of(alloc, found, form, start, wanted, sizes) {
         Ok(program) => Ok(program),
         Err(fault) => Err(fault),
     }
@@ -136,26 +143,30 @@ fn have_few_each(streams: &[AudioStream]) -> bool
         .all(|stream| stream.units.as_slice().len() <= PES_PACKETS_MOST)
 }
 
-/// The program of what is taken out of a file. An error is the first refusal of its video, its audio streams and the number of its
-/// units, in this order.
+/// The program of the streams that stand in a file of a form. An error is the first refusal of its video, its audio streams and the number
+/// of its units, in this order.
 fn program_of(
     alloc: Global,
-    demuxed: Demuxed,
+    found: FoundStreams,
+    form: Form,
     start: u64,
     wanted: &SizesWanted<'_>,
     sizes: &mut Vec<UnitSizes>,
 ) -> Result<Program, ProgramFault>
     requires start { start < 2 ^ 50 }
-    requires video_few { length demuxed.video ≤ PES_PACKETS_MOST }
-    requires video_small { sum_by (λ packet. length packet.bytes) demuxed.video ≤ FILE_BYTES_MOST }
-    requires audios_few { All (λ stream. length stream.units ≤ PES_PACKETS_MOST) demuxed.audios }
-    requires audios_small { All (λ stream. sum_by (λ packet. length packet.bytes) stream.units ≤ FILE_BYTES_MOST) demuxed.audios }
-    requires few_audios { length demuxed.audios ≤ AUDIOS_MOST }
+    requires video_few { length found.demuxed.video ≤ PES_PACKETS_MOST }
+    requires video_small { sum_by (λ packet. length packet.bytes) found.demuxed.video ≤ FILE_BYTES_MOST }
+    requires audios_few { All (λ stream. length stream.units ≤ PES_PACKETS_MOST) found.demuxed.audios }
+    requires audios_small { All (λ stream. sum_by (λ packet. length packet.bytes) stream.units ≤ FILE_BYTES_MOST) found.demuxed.audios }
+    requires few_audios { length found.demuxed.audios ≤ AUDIOS_MOST }
+    requires cut { found.cut ≤ 1 }
     requires coarser { length wanted.now.coarser.now < VERSIONS_MOST }
     requires none { sizes.old.items ≡ [] }
-    ensures program { MatchResult result (IsProgram start demuxed) (λ fault. (fault ≡ OutOfMemory) ⊎ IsDemuxedRefused demuxed fault) }
+    ensures program { MatchResult result (IsProgram start (typed form found.demuxed)) (λ fault. (fault ≡ OutOfMemory) ⊎ IsDemuxedRefused (typed form found.demuxed) fault) }
+    ensures dropped { IfOk result (λ program. program.pes_dropped ≡ all_packets_dropped (typed form found.demuxed) + found.cut) }
     ensures sizes { IfOk result (λ program. wanted.now.are_wanted ≡ true → AreProgramSizes program wanted.now.coarser.now sizes.new.items) }
 {
+    let FoundStreams { demuxed, cut } = found;
     let Demuxed {
         map,
         video: packets,
@@ -175,10 +186,11 @@ fn program_of(
         return Err(PROGRAM_LIMIT);
     }
     let beside = BesideVideo {
-        map,
+        map: map_by_form(form, map, audios.as_slice(), streams.as_slice()),
         audios,
         rest,
         not_carried,
+        cut,
     };
     match due_program(alloc, beside, video, streams.as_slice(), start) {
         Ok(program) => Ok(program),

@@ -2,6 +2,7 @@
 
 use crate::packets::File;
 use crate::streams::{I_FRAME, PROGRESSIVE, SEQUENCE, Unit, two_frames, unit_of};
+use job_report::Form;
 use program_reader::{ProgramFault, SourceKind, read_program};
 use std::test::Fail;
 
@@ -17,7 +18,7 @@ fn audio_may_begin_before_the_video(rt: HostRuntime) -> Result<(), Fail> {
     let mut file = File::new(rt.alloc())?;
     file.video(Some(90_000), first().as_slice())?;
     file.audio(Some(88_000), &two_frames(), 0)?;
-    let program = read_program(rt.alloc(), file.bytes.as_slice(), 1, &[], START)?;
+    let program = read_program(rt.alloc(), file.bytes.as_slice(), Form::Ts, 1, &[], START)?;
     assert_eq!(rt; program.base, 300 * 88_000 - START);
     if let ([unit], [audio]) = (program.units.as_slice(), program.audios.as_slice()) {
         assert_eq!(rt; unit.due, START + 600_000);
@@ -38,7 +39,7 @@ fn audio_may_begin_behind_the_video(rt: HostRuntime) -> Result<(), Fail> {
     let mut file = File::new(rt.alloc())?;
     file.video(Some(90_000), first().as_slice())?;
     file.audio(Some(92_000), &two_frames(), 0)?;
-    let program = read_program(rt.alloc(), file.bytes.as_slice(), 1, &[], START)?;
+    let program = read_program(rt.alloc(), file.bytes.as_slice(), Form::Ts, 1, &[], START)?;
     if let ([unit], [audio]) = (program.units.as_slice(), program.audios.as_slice()) {
         assert_eq!(rt; unit.due, START);
         if let [piece] = audio.pieces.as_slice() {
@@ -54,7 +55,7 @@ fn a_cut_last_audio_packet_is_dropped(rt: HostRuntime) -> Result<(), Fail> {
     file.video(Some(90_000), first().as_slice())?;
     file.audio(Some(90_000), &two_frames(), 0)?;
     file.audio(None, &two_frames(), 1)?;
-    let program = read_program(rt.alloc(), file.bytes.as_slice(), 1, &[], START)?;
+    let program = read_program(rt.alloc(), file.bytes.as_slice(), Form::Ts, 1, &[], START)?;
     assert_eq!(rt; program.pes_dropped, 1);
     if let [audio] = program.audios.as_slice() {
         assert_eq!(rt; (audio.pieces.len(), audio.bytes.len()), (1, 110));
@@ -65,7 +66,7 @@ fn a_cut_last_audio_packet_is_dropped(rt: HostRuntime) -> Result<(), Fail> {
         kind: SourceKind::BadLength,
         at: 4 * 188,
     };
-    let fault = read_program(rt.alloc(), file.bytes.as_slice(), 1, &[], START).err();
+    let fault = read_program(rt.alloc(), file.bytes.as_slice(), Form::Ts, 1, &[], START).err();
     assert_eq!(rt; fault, Some(want));
     Ok(())
 }
@@ -76,7 +77,14 @@ fn a_cut_last_video_header_is_dropped(rt: HostRuntime) -> Result<(), Fail> {
     file.video(Some(90_000), first().as_slice())?;
     file.audio(Some(90_000), &two_frames(), 0)?;
     file.cut_video()?;
-    let program = read_program(rt.alloc(), file.bytes.as_slice(), 1, &[258], START)?;
+    let program = read_program(
+        rt.alloc(),
+        file.bytes.as_slice(),
+        Form::Ts,
+        1,
+        &[258],
+        START,
+    )?;
     assert_eq!(rt;
         (
             program.units.len(),

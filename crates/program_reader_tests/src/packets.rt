@@ -89,34 +89,26 @@ impl File {
 
     /// Puts a PES packet of the video in one packet, zero bytes behind it.
     pub fn video(&mut self, time: Time, unit: &[u8]) -> Result<(), AllocError> {
-        let mut fields = Vec::new(self.alloc);
-        put_time(&mut fields, time)?;
-        self.video_behind(fields.as_slice(), unit)
+        let pes = video_pes(self.alloc, time, unit)?;
+        self.put_video(pes.as_slice())
     }
 
     /// The same with a PTS and a DTS.
     pub fn video_shown_later(&mut self, pts: u64, dts: u64, unit: &[u8]) -> Result<(), AllocError> {
-        let mut fields = Vec::new(self.alloc);
-        fields.extend_from_slice(&[0xC0, 10])?;
-        fields.extend_from_slice(&time_field(PTS_FIRST, pts))?;
-        fields.extend_from_slice(&time_field(DTS, dts))?;
-        self.video_behind(fields.as_slice(), unit)
+        let mut pes = Vec::new(self.alloc);
+        pes.extend_from_slice(&[0, 0, 1, 0xE0, 0, 0, 0x80, 0xC0, 10])?;
+        pes.extend_from_slice(&time_field(PTS_FIRST, pts))?;
+        pes.extend_from_slice(&time_field(DTS, dts))?;
+        pes.extend_from_slice(unit)?;
+        self.put_video(pes.as_slice())
     }
 
-    /// Puts a PES packet of the video, with these bytes from the flags to the end of its header.
-    fn video_behind(&mut self, fields: &[u8], unit: &[u8]) -> Result<(), AllocError> {
+    /// Puts a packet that begins with this PES packet of the video.
+    fn put_video(&mut self, pes: &[u8]) -> Result<(), AllocError> {
         let [high, low] = VIDEO_PID.to_be_bytes();
         let count = self.videos;
         self.videos = count.wrapping_add(1) % 16;
-        let mut pes = Vec::new(self.alloc);
-        pes.extend_from_slice(&[0, 0, 1, 0xE0, 0, 0, 0x80])?;
-        pes.extend_from_slice(fields)?;
-        pes.extend_from_slice(unit)?;
-        self.put(
-            &[SYNC_BYTE, 0x40 | high, low, 0x10 | count],
-            pes.as_slice(),
-            0,
-        )
+        self.put(&[SYNC_BYTE, 0x40 | high, low, 0x10 | count], pes, 0)
     }
 
     /// Puts a packet that begins a PES packet of which these bytes stand in the file.
@@ -144,17 +136,37 @@ impl File {
     pub fn audio(&mut self, time: Time, payload: &[u8], more: u16) -> Result<(), AllocError> {
         let count = self.audios;
         self.audios = count.wrapping_add(1) % 16;
-        let mut behind = Vec::new(self.alloc);
-        behind.push(0x80)?;
-        put_time(&mut behind, time)?;
-        behind.extend_from_slice(payload)?;
-        let size = u16::try_from(behind.len()).unwrap_or(0);
-        let [high, low] = size.wrapping_add(more).to_be_bytes();
-        let mut pes = Vec::new(self.alloc);
-        pes.extend_from_slice(&[0, 0, 1, 0xC0, high, low])?;
-        pes.extend_from_slice(behind.as_slice())?;
+        let pes = audio_pes(self.alloc, time, payload, more)?;
         self.put_short(AUDIO_PID, count, pes.as_slice())
     }
+}
+
+/// A PES packet of a video that states no length.
+pub fn video_pes(alloc: Global, time: Time, unit: &[u8]) -> Result<Vec<u8>, AllocError> {
+    let mut pes = Vec::new(alloc);
+    pes.extend_from_slice(&[0, 0, 1, 0xE0, 0, 0, 0x80])?;
+    put_time(&mut pes, time)?;
+    pes.extend_from_slice(unit)?;
+    Ok(pes)
+}
+
+/// A PES packet of audio, its stated length greater than it is by so much.
+pub fn audio_pes(
+    alloc: Global,
+    time: Time,
+    payload: &[u8],
+    more: u16,
+) -> Result<Vec<u8>, AllocError> {
+    let mut behind = Vec::new(alloc);
+    behind.push(0x80)?;
+    put_time(&mut behind, time)?;
+    behind.extend_from_slice(payload)?;
+    let size = u16::try_from(behind.len()).unwrap_or(0);
+    let [high, low] = size.wrapping_add(more).to_be_bytes();
+    let mut pes = Vec::new(alloc);
+    pes.extend_from_slice(&[0, 0, 1, 0xC0, high, low])?;
+    pes.extend_from_slice(behind.as_slice())?;
+    Ok(pes)
 }
 
 /// Puts the flags, the length of what follows, and a PTS of a PES header.

@@ -5,6 +5,7 @@ use crate::streams::{
     I_BOTTOM, I_FRAME, I_REPEATED, I_THREE, I_TOP, INTERLACED, OPEN_GROUP, PROGRESSIVE, SEQUENCE,
     SEQUENCE_OF_RATE_1, SEQUENCE_OF_RATE_4, Unit, b_frame, b_unit, frame_of, two_frames, unit_of,
 };
+use job_report::Form;
 use program_maker::make_program;
 use program_reader::{Program, ProgramFault, SourceKind, read_program};
 use std::alloc::{AllocError, Global};
@@ -26,14 +27,14 @@ fn file_of(alloc: Global, units: &[(Time, Unit)]) -> Result<File, AllocError> {
 fn program_of(alloc: Global, units: &[(Time, Unit)], audio: u64) -> Result<Program, Fail> {
     let mut file = file_of(alloc, units)?;
     file.audio(Some(audio), &two_frames(), 0)?;
-    Ok(read_program(alloc, file.bytes.as_slice(), 1, &[], START)?)
+    Ok(read_program(alloc, file.bytes.as_slice(), Form::Ts, 1, &[], START)?)
 }
 
 /// Why such a file is refused.
 fn fault_of(alloc: Global, units: &[(Time, Unit)]) -> Result<Option<ProgramFault>, Fail> {
     let mut file = file_of(alloc, units)?;
     file.audio(Some(90_000), &two_frames(), 0)?;
-    Ok(read_program(alloc, file.bytes.as_slice(), 1, &[], START).err())
+    Ok(read_program(alloc, file.bytes.as_slice(), Form::Ts, 1, &[], START).err())
 }
 
 /// When the units of a program are due.
@@ -266,7 +267,7 @@ fn pictures_of_an_open_group_are_kept_without_the_one_before(rt: HostRuntime) ->
     file.video(Some(93_600), b_unit().as_slice())?;
     file.video(Some(97_200), b_unit().as_slice())?;
     file.audio(Some(90_000), &two_frames(), 0)?;
-    let program = read_program(rt.alloc(), file.bytes.as_slice(), 1, &[], START)?;
+    let program = read_program(rt.alloc(), file.bytes.as_slice(), Form::Ts, 1, &[], START)?;
     assert_eq!(rt; (program.units.len(), program.units_dropped), (3, 0));
     assert_eq!(rt; program.base, 300 * 90_000 - START);
     assert_eq!(rt;
@@ -294,7 +295,7 @@ fn a_generated_program_is_read(rt: HostRuntime) -> Result<(), Fail> {
     for _ in 0..100 {
         file.push(0)?;
     }
-    let program = read_program(rt.alloc(), file.as_slice(), 1, &[], START)?;
+    let program = read_program(rt.alloc(), file.as_slice(), Form::Ts, 1, &[], START)?;
     assert_eq!(rt;
         (program.units.len(), program.audios.len(), program.rest),
         (12, 1, 100)

@@ -12,10 +12,10 @@ use Rattle.program_stream.specs.Split.{HasElements, IsSplitRefused, short_file, 
 abbrev pack_with : ℕ → Element
 pack_with byte = record { zeros = 0; id = 0xBA; body = byte ∷ 0x00 ∷ 0x04 ∷ 0x00 ∷ 0x04 ∷ 0x01 ∷ 0x00 ∷ 0x00 ∷ 0x07 ∷ 0xF8 ∷ [] }
 
-abbrev pack : Element
+abbrev pub pack : Element
 pack = pack_with 0x44
 
-abbrev end_code : Element
+abbrev pub end_code : Element
 end_code = record { zeros = 0; id = 0xB9; body = [] }
 
 pack-whole : IsWholeElement pack
@@ -122,16 +122,16 @@ one_byte_length at = refl
 -- ---- whole files
 
 -- a pack header and an end code: no video
-abbrev two_elements : List ℕ
+abbrev pub two_elements : List ℕ
 two_elements = element_bytes pack ++ element_bytes end_code
 
-two_elements-are : HasElements two_elements (pack ∷ end_code ∷ []) 0
+pub two_elements-are : HasElements two_elements (pack ∷ end_code ∷ []) 0
 two_elements-are = record {
   long = omega arith;
   are = record { rest = []; bytes_are = refl; sound = (pack-sound, (end-sound, tt)); ending = zero_bytes 0 refl refl };
 }
 
-two_elements-no_video : (drop : List ℕ) → IsSplitRefused two_elements drop (NoVideo 0)
+pub two_elements-no_video : (drop : List ℕ) → IsSplitRefused two_elements drop (NoVideo 0)
 two_elements-no_video drop = no_video (pack ∷ end_code ∷ []) 0 two_elements-are refl refl
 
 -- with another byte 4 it is a bad pack header at 0

@@ -1,4 +1,4 @@
-mod Examples
+pub mod Examples
 pub mod Fields
 pub mod Starts
 pub mod Wholes
@@ -11,3 +11,4 @@ pub mod OneAnswer
 pub mod BothForms
 pub mod SomeAnswer
 pub mod Early
+pub mod StreamSizes

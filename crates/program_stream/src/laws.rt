@@ -1,5 +1,7 @@
 //! Laws of the definitions, each the contract of a function that nobody needs to call.
-ghost use Rattle.std.specs.Prelude.{◌≡◌, ◌≢◌, ◌⊎◌, ◌++◌, ℕ, List};
+ghost use Rattle.std.specs.Prelude.{◌≡◌, ◌≢◌, ◌≤◌, ◌⊎◌, ◌++◌, ℕ, List, length, All};
+ghost use Rattle.std.specs.List.{sum_by};
+ghost use Rattle.stream_constants.specs.declared.limits.TheConstants.{AUDIOS_MOST};
 ghost use Rattle.ts_demux.specs.declared.demux_fault.DemuxFault.{DemuxFault};
 ghost use Rattle.ts_demux.specs.declared.demux_fault.DemuxFault.TheVariants as demux_faults;
 ghost use Rattle.ts_demux.specs.declared.demuxed.Demuxed.{Demuxed};
@@ -36,6 +38,17 @@ pub fn some_answer(file: &[u8], drop: &[u16])
 /// What refuses the elements of a file's first bytes refuses the file, whatever follows: so a reader of a source may stop there.
 pub fn refused_early()
     ensures { (front more : List ℕ) (fault : SplitFault) → IsFirstRefusal front fault → IsFirstRefusal (front ++ more) fault }
+{}
+
+/// Of what is taken out of a file no stream has more bytes than the file, there are no more audio streams than a program may have, and at
+/// most one element is cut.
+pub fn within_file()
+    ensures video { (file drop : List ℕ) (demuxed : Demuxed) (cut : ℕ) → IsSplit file drop demuxed cut →
+        sum_by (λ packet. length packet.bytes) demuxed.video ≤ length file }
+    ensures audios { (file drop : List ℕ) (demuxed : Demuxed) (cut : ℕ) → IsSplit file drop demuxed cut →
+        All (λ stream. sum_by (λ packet. length packet.bytes) stream.units ≤ length file) demuxed.audios }
+    ensures few_audios { (file drop : List ℕ) (demuxed : Demuxed) (cut : ℕ) → IsSplit file drop demuxed cut → length demuxed.audios ≤ AUDIOS_MOST }
+    ensures cut { (file drop : List ℕ) (demuxed : Demuxed) (cut : ℕ) → IsSplit file drop demuxed cut → cut ≤ 1 }
 {}
 
 /// The same PES packets of a video and an audio stream, put into a program stream and into a transport stream, are taken out of both

@@ -15,5 +15,7 @@ mod split_file;
 pub mod stream_ids;
 mod stream_walk;
 
+pub use found_elements::find_elements;
 pub use split_fault::SplitFault;
 pub use split_file::split;
+pub use stream_walk::map_stream;

@@ -3,7 +3,7 @@ ghost use Rattle.stream_constants.specs.declared.limits.TheConstants.{AUDIOS_MOS
 ghost use Rattle.pes_units.specs.PesHeader.{is_stream_id};
 ghost use Rattle.program_stream.specs.Elements.{Element, element_bytes, all_spelled};
 ghost use Rattle.program_stream.specs.Streams.{first_video_id, is_carried_audio, may_be_stream, map_of, map_stream};
-ghost use Rattle.program_stream.specs.Private.Walks.{HasWalked, IsTakenOut, IsStreamsFault, is_first_video, with_id};
+ghost use Rattle.program_stream.specs.Private.Walks.{HasWalked, IsOfElements, IsStreamsFault, is_first_video, with_id};
 
 use crate::packet_streams::PacketStreams;
 use crate::split_fault::SplitFault;
@@ -116,7 +116,7 @@ impl StreamWalk {
 
     /// What is taken out of a file whose elements were all taken. An error is NoVideo or ProgramLimit.
     pub fn into_demuxed(self) -> Result<Demuxed, SplitFault>
-        ensures { (drop : List ℕ) (elements : List Element) → HasWalked drop elements self → MatchResult result (IsTakenOut drop elements) (IsStreamsFault drop elements) }
+        ensures { (drop : List ℕ) (elements : List Element) → HasWalked drop elements self → MatchResult result (IsOfElements drop elements) (IsStreamsFault drop elements) }
     {
         let StreamWalk {
             video: PacketStreams {
@@ -160,8 +160,8 @@ fn map_of(video: u16, audios: &[AudioStream]) -> ProgramMap
     }
 }
 
-/// A stream of a map without descriptors.
-fn map_stream(kind: u8, pid: u16) -> Stream
+/// A stream of a map without descriptors, of a `stream_type` and with a stream id as its PID.
+pub fn map_stream(kind: u8, pid: u16) -> Stream
     ensures { result ≡ map_stream kind pid }
 {
     Stream {

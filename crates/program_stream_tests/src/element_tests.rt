@@ -40,23 +40,25 @@ fn behind(alloc: Global, bytes: &[u8]) -> Result<u32, SplitFault> {
 
 #[test]
 fn a_pack_header_and_an_end_code(rt: HostRuntime) -> Result<(), Fail> {
-    let mut file = file_of(rt.alloc(), &[&PACK, &END])?;
+    let mut file = [
+        0, 0, 1, 0xBA, 0x44, 0x00, 0x04, 0x00, 0x04, 0x01, 0x00, 0x00, 0x07, 0xF8, 0, 0, 1, 0xB9,
+    ];
     assert_eq!(rt;
-        answer(rt.alloc(), file.as_slice()),
+        answer(rt.alloc(), &file),
         Err(SplitFault::NoVideo { at: 0 })
     );
     assert_eq!(rt;
-        answer(rt.alloc(), &file.as_slice()[..13]),
+        answer(rt.alloc(), &file[..13]),
         Err(SplitFault::ShortFile { at: 0 })
     );
     file[14] = 1;
     assert_eq!(rt;
-        answer(rt.alloc(), file.as_slice()),
+        answer(rt.alloc(), &file),
         Err(SplitFault::BadStart { at: 14 })
     );
     file[4] = 0x21;
     assert_eq!(rt;
-        answer(rt.alloc(), file.as_slice()),
+        answer(rt.alloc(), &file),
         Err(SplitFault::BadPack { at: 0 })
     );
     Ok(())

@@ -3,5 +3,6 @@ mod AudioTimes
 mod Examples
 pub mod Rows
 mod TableLimits
+pub mod TakenOut
 pub mod UnitLimits
 mod SizedRows

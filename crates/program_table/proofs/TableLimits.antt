@@ -8,9 +8,7 @@ use Rattle.std.proofs.lemmas.List.Elements.{All-cons, All-head, All-nil, All-tai
 use Rattle.std.proofs.lemmas.List.Sums.{sum_by-append, sum_by-cons}
 use Rattle.bit_lists.specs.Fields.{AreBytes}
 use Rattle.picture_grammar.specs.Picture.{IsState}
-use Rattle.psi_tables.specs.declared.stream.Stream.{Stream}
-use Rattle.ts_demux.specs.declared.demuxed.AudioStream.{AudioStream}
-use Rattle.ts_demux.specs.Demux.{pes_packets_on}
+use Rattle.job_report.specs.declared.job.Form.{Form}
 use Rattle.job_report.specs.declared.job.Job.{Job}
 use Rattle.job_report.specs.declared.job.ProgramJob.{ProgramJob}
 use Rattle.job_report.specs.ValidJob.{IsValidJob, IsValidProgramJob}
@@ -28,6 +26,7 @@ use Rattle.job_programs.specs.Programs.{AreNextPrograms, ArePrograms, IsNextProg
 use Rattle.version_maker.specs.declared.version.UnitVersion.{UnitVersion}
 use Rattle.version_source.specs.Versions.{AreAllVersions, AreVideoVersions, ratios_of}
 use Rattle.program_table.specs.Table.{IsRowOf, IsTableOf, audio_row, program_row, program_rows, unit_rows}
+use Rattle.program_table.proofs.TakenOut.{HasItsStreams, its-streams}
 use Rattle.program_table.proofs.AudioLimits.{rows-packets, sources-as-many, streams-valid}
 use Rattle.program_table.proofs.UnitLimits.{AreAllNear, HavePlaces, Climb, IsShortUnit, all-near, told-near, told-together, climb-rises, dues-climb, dues_of, kept-in-order, pictures-state, row-dues, rows-few, rows-valid, sources-many, units-short}
 
@@ -43,8 +42,8 @@ record IsFine (slot : ℕ) (row : ProgramRow) : Type 0 where
   pub few : length (audio_packets_in row) ≤ 536870911
   pub together : sum_by greatest_distortion row.units < 1152921504606846976
 
-program-short : (start number : ℕ) (content drop : List ℕ) (program : Program) → IsProgramOfFile content number drop start program → All IsShortUnit program.units
-program-short start number content drop program holds =
+program-short : (start : ℕ) (form : Form) (number : ℕ) (content drop : List ℕ) (program : Program) → IsProgramOfFile form content number drop start program → All IsShortUnit program.units
+program-short start form number content drop program holds =
     let read : IsProgram start holds.demuxed program = holds.program_is in
     let es = video_bytes holds.demuxed in
     let packets = video_packets holds.demuxed in
@@ -78,10 +77,10 @@ together-of slot weight coarser program versions drift keeps valid is = by-drift
     by-drift (suc less) keeps valid = told (suc less) (keeps (inl (omega arith)))
     by-drift zero keeps valid = by-count keeps valid (cases_order 4096 (length program.units))
 
-program-fine : HavePlaces → (slot start number weight drift : ℕ) (content drop coarser : List ℕ) (program : Program) (versions : List (List UnitVersion)) → length coarser ≤ 7
-    → IsProgramOfFile content number drop start program → IsWithinTime slot program → AreBytes program.video → AreVideoVersions program.video coarser None program.units versions
+program-fine : HavePlaces → (slot start : ℕ) (form : Form) (number weight drift : ℕ) (content drop coarser : List ℕ) (program : Program) (versions : List (List UnitVersion)) → length coarser ≤ 7
+    → IsProgramOfFile form content number drop start program → IsWithinTime slot program → AreBytes program.video → AreVideoVersions program.video coarser None program.units versions
     → KeepsShare weight drift coarser program → AreAllNear weight drift program.units versions → IsFine slot (program_row weight drift program versions)
-program-fine places slot start number weight drift content drop coarser program versions few_ratios holds within are is room near =
+program-fine places slot start form number weight drift content drop coarser program versions few_ratios holds within are is room near =
     let demuxed = holds.demuxed in
     let read : IsProgram start demuxed program = holds.program_is in
     let es = video_bytes demuxed in
@@ -96,15 +95,12 @@ program-fine places slot start number weight drift content drop coarser program 
     let climb : Climb 0 (dues_of program.units) =
     dues-climb start read.earliest es packets [] 0 read.kept read.pictures program.units (λ ticks due later is. omega arith) read.units_are in_order in
     let rises : IsStrictlyIncreasing (dues_of program.units) = climb-rises 0 (dues_of program.units) climb in
-    let short : All IsShortUnit program.units = program-short start number content drop program holds in
+    let short : All IsShortUnit program.units = program-short start form number content drop program holds in
     let as_many : length program.audios ≡ length demuxed.audios = sources-as-many start read.earliest demuxed.audios read.frames program.audios read.audios_are in
-    let streams : length demuxed.map.streams.items ≡ suc (length holds.demuxed_is.audios) = ap (λ (xs : List Stream). length xs) holds.demuxed_is.streams in
-    let carried : length demuxed.audios ≡ length holds.demuxed_is.audios =
-    ap (λ (xs : List AudioStream). length xs) holds.demuxed_is.audio_packets ∙ length-map holds.demuxed_is.audios (pes_packets_on content) in
-    let few : length demuxed.map.streams.items ≤ 1 + 8 = holds.demuxed_is.few in
+    let its : HasItsStreams demuxed = its-streams form content number drop demuxed holds.demuxed_is in
     let audios : length (map audio_row program.audios) ≡ length program.audios = length-map program.audios audio_row in
     let count : length (flat_map (λ packets. packets) (map audio_row program.audios)) ≡ audio_packets program.audios = rows-packets program.audios in
-    let eight : length program.audios ≤ 8 = omega (arith, as_many, streams, carried, few) in
+    let eight : length program.audios ≤ 8 = omega (arith, as_many, its.few) in
     let units : All (IsValidUnit slot) (unit_rows weight drift program.units versions) =
     rows-valid places slot weight drift program.video coarser None program.units versions few_ratios are tt short within.units is near in
     record {
@@ -121,14 +117,14 @@ program-fine places slot start number weight drift content drop coarser program 
     }
 
 -- a row has a place in a table: it keeps the limits, and its units and audio packets aren't too many
-pub row-valid : HavePlaces → (slot start number weight : ℕ) (content drop coarser : List ℕ) (program : Program) (row : ProgramRow) → weight ≤ 100 → length coarser ≤ 7
-    → IsProgramOfFile content number drop start program → IsWithinTime slot program → KeepsShare weight 0 coarser program → AreBytes program.video → IsRowOf program coarser weight 0 row
+pub row-valid : HavePlaces → (slot start : ℕ) (form : Form) (number weight : ℕ) (content drop coarser : List ℕ) (program : Program) (row : ProgramRow) → weight ≤ 100 → length coarser ≤ 7
+    → IsProgramOfFile form content number drop start program → IsWithinTime slot program → KeepsShare weight 0 coarser program → AreBytes program.video → IsRowOf program coarser weight 0 row
     → IsValidProgram slot row × (length row.units ≤ 4194304) × (length (flat_map (λ packets. packets) row.audios) < 4294967296)
     × (sum_by greatest_distortion row.units < 9223372036854775808)
-row-valid places slot start number weight content drop coarser program row light few_ratios holds within room are is =
+row-valid places slot start form number weight content drop coarser program row light few_ratios holds within room are is =
     let fine : IsFine slot row =
-    subst (IsFine slot) (sym is.row_is) (program-fine places slot start number weight 0 content drop coarser program is.versions few_ratios holds within are is.are_versions room
-    (all-near places weight program.video coarser None program.units is.versions light are tt (program-short start number content drop program holds) is.are_versions)) in
+    subst (IsFine slot) (sym is.row_is) (program-fine places slot start form number weight 0 content drop coarser program is.versions few_ratios holds within are is.are_versions room
+    (all-near places weight program.video coarser None program.units is.versions light are tt (program-short start form number content drop program holds) is.are_versions)) in
     let rows : length row.units ≡ length (unit_rows weight 0 program.units is.versions) = ap (λ (r : ProgramRow). length r.units) is.row_is in
     let read : IsProgram start holds.demuxed program = holds.program_is in
     let count : length program.units ≡ length read.kept = sources-many start read.earliest read.kept read.pictures program.units read.units_are in
@@ -142,12 +138,12 @@ one-fine : HavePlaces → (slot start : ℕ) (contents : List (List ℕ)) (befor
     → IsValidProgramJob job → IsNextProgram slot start contents before job content program → AreBytes program.video
     → AreVideoVersions program.video job.coarser.items None program.units versions → IsFine slot (program_row job.weight job.drift program versions)
 one-fine places slot start contents before job content program versions valid next are is =
-    program-fine places slot start job.program job.weight job.drift content job.drop.items job.coarser.items program versions valid.few_coarser next.holds next.within are is next.share
+    program-fine places slot start job.form job.program job.weight job.drift content job.drop.items job.coarser.items program versions valid.few_coarser next.holds next.within are is next.share
     (by-drift job.drift next.share.distortions)
   where
     by-drift : (drift : ℕ) → KeepsDistortions job.weight drift job.coarser.items program → AreAllNear job.weight drift program.units versions
     by-drift zero keeps =
-        all-near places job.weight program.video job.coarser.items None program.units versions valid.weight are tt (program-short start job.program content job.drop.items program next.holds) is
+        all-near places job.weight program.video job.coarser.items None program.units versions valid.weight are tt (program-short start job.form job.program content job.drop.items program next.holds) is
     by-drift (suc less) keeps =
         let near = keeps (inl (omega arith)) in
         told-near job.weight (suc less) program.video job.coarser.items None program.units versions near.sizes is near.are_sizes near.near

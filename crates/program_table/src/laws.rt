@@ -2,6 +2,7 @@
 ghost use Rattle.std.specs.Prelude.{◌≡◌, ◌≤◌, ◌<◌, ℕ, List, All, length, sum_by};
 ghost use Rattle.std.specs.List.{flat_map};
 ghost use Rattle.bit_lists.specs.Fields.{AreBytes};
+ghost use Rattle.job_report.specs.declared.job.Form.{Form};
 ghost use Rattle.job_report.specs.declared.job.Job.{Job};
 ghost use Rattle.job_report.specs.ValidJob.{IsValidJob};
 ghost use Rattle.program_reader.specs.declared.program.Program.{Program};
@@ -37,8 +38,8 @@ pub fn table_is_valid()
 /// Where a file holds a program whose times lie within a slot length's limit, and that takes no more of a table than its share, its row
 /// without drift has a place in a table of such slots.
 pub fn row_is_valid()
-    ensures { (slot start number weight : ℕ) (content drop coarser : List ℕ) (program : Program) (row : ProgramRow) → weight ≤ WEIGHT_MOST → length coarser ≤ COARSER_MOST
-        → IsProgramOfFile content number drop start program → IsWithinTime slot program → KeepsShare weight DRIFT_DEFAULT coarser program
+    ensures { (slot start : ℕ) (form : Form) (number weight : ℕ) (content drop coarser : List ℕ) (program : Program) (row : ProgramRow) → weight ≤ WEIGHT_MOST → length coarser ≤ COARSER_MOST
+        → IsProgramOfFile form content number drop start program → IsWithinTime slot program → KeepsShare weight DRIFT_DEFAULT coarser program
         → AreBytes program.video → IsRowOf program coarser weight DRIFT_DEFAULT row
         → IsValidProgram slot row × (length row.units ≤ UNITS_MOST) × (length (flat_map (λ packets. packets) row.audios) < AUDIO_PACKETS_LIMIT)
         × (sum_by greatest_distortion row.units < DISTORTIONS_LIMIT) }

@@ -1,3 +1,4 @@
+use job_report::Form;
 use program_maker::make_program;
 use program_reader::{Program, SizedProgram, read_program, read_sized_program};
 use program_table::{row_of_program, row_of_sized_program};
@@ -61,7 +62,7 @@ fn counts(row: &ProgramRow, other: &ProgramRow, times: u64, more: u64) -> bool {
 #[test]
 fn a_generated_program(rt: HostRuntime) -> Result<(), Fail> {
     let file = make_program(rt.alloc(), 1, 12)?;
-    let program = read_program(rt.alloc(), file.as_slice(), 1, &[], START)?;
+    let program = read_program(rt.alloc(), file.as_slice(), Form::Ts, 1, &[], START)?;
     programs_can_be_sent();
     let row = row_of_program(rt.alloc(), &program, &RATIOS, 3, 0)?;
     assert_eq!(rt; (row.units.len(), row.audios.len()), (12, 1));
@@ -83,6 +84,7 @@ fn a_program_that_was_sized_as_it_was_read(rt: HostRuntime) -> Result<(), Fail> 
     let SizedProgram { program, sizes } = read_sized_program(
         rt.alloc(),
         file.as_slice(),
+        Form::Ts,
         1,
         &[],
         START,

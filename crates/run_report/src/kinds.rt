@@ -23,6 +23,8 @@ pub fn kind_name(kind: SourceKind) -> &'static str
         SourceKind::NoPmt => "NoPmt",
         SourceKind::NoVideo => "NoVideo",
         SourceKind::PmtTooLong => "PmtTooLong",
+        SourceKind::BadStart => "BadStart",
+        SourceKind::BadPack => "BadPack",
         SourceKind::BadPrefix => "BadPrefix",
         SourceKind::Short => "Short",
         SourceKind::BadMarker => "BadMarker",

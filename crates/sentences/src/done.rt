@@ -127,13 +127,13 @@ fn silent_programs(
     Ok(Some(whole))
 }
 
-/// Adds a program without sound, with the PIDs that aren't carried.
+/// Adds a program without sound, with the streams that aren't carried.
 fn add_silent(alloc: Global, said: &mut String, program: &Value) -> Result<(), AllocError> {
     if !said.is_empty() {
         said.push_str("; ")?;
     }
     let begin = format!(in alloc;
-        "program number {} goes out without sound, and of its file these PIDs aren't carried:",
+        "program number {} goes out without sound, and of its file these PIDs or stream ids aren't carried:",
         number(program, "number")
     )?;
     said.push_str(begin.as_str())?;

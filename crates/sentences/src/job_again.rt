@@ -1,5 +1,6 @@
 //! The text of a job, read once more for what a sentence wants of it.
 
+use job_report::Form;
 use job_report::limits::JOB_TEXT_MOST;
 use shelf_io::read_file;
 use shelf_kinds::FileShelf;
@@ -19,8 +20,8 @@ const JOB_FIELDS: [&str; 6] = [
 ];
 
 /// The fields of a program of a job.
-const PROGRAM_FIELDS: [&str; 7] = [
-    "file", "program", "number", "weight", "coarser", "drift", "drop",
+const PROGRAM_FIELDS: [&str; 8] = [
+    "file", "program", "number", "weight", "coarser", "drift", "drop", "form",
 ];
 
 /// The bytes of a job's text; none where they can't be read any more.
@@ -47,9 +48,22 @@ pub(crate) fn job_table<R: Files + AllocGlobal>(rt: &R, name: &str) -> Option<Ta
 
 /// The file of a program, counted from 0.
 pub(crate) fn file_of(table: &Table, program: u64) -> Option<&str> {
+    text_of(table, program, "file")
+}
+
+/// The form of that file.
+pub(crate) fn form_of(table: &Table, program: u64) -> Form {
+    match text_of(table, program, "form") {
+        Some("ps") => Form::Ps,
+        _ => Form::Ts,
+    }
+}
+
+/// A text of a program, counted from 0.
+fn text_of<'a>(table: &'a Table, program: u64, name: &str) -> Option<&'a str> {
     let programs = table.get("program").and_then(Value::as_array)?;
     let program = programs.get(program as usize)?;
-    program.get("file").and_then(Value::as_str)
+    program.get(name).and_then(Value::as_str)
 }
 
 /// A whole number of a job's text; another one where it has none of that name.

@@ -1,9 +1,11 @@
 //! The kinds of refused programs in words: what is wrong, of what the place is a byte, and what helps.
 
+use job_report::Form;
+
 /// Of what the place of a refusal is a byte.
 #[derive(Clone, Copy, PartialEq, Eq)]
 pub(crate) enum Place {
-    /// Of the file, at the start of a packet.
+    /// Of the file, at the start of a packet, or of an element of a program stream.
     File,
     /// Of the program's video, its payloads joined.
     Video,
@@ -20,6 +22,8 @@ pub(crate) enum Place {
 pub(crate) enum Help {
     /// To look whether it is the file that was meant.
     OtherFile,
+    /// To say that the file is a program stream, or to write the packets anew.
+    OtherForm,
     /// To write the packets anew.
     Rewrite,
     /// To cut before the packet, and go on with it.
@@ -32,6 +36,10 @@ pub(crate) enum Help {
     Descramble,
     /// To look up the number of the program.
     Number,
+    /// To name the number that the program of a program stream has.
+    NumberOne,
+    /// To leave out the form, or to make a transport stream of a program stream.
+    Packets,
     /// To code the video anew.
     Recode,
     /// To code the audio anew, or drop it.
@@ -58,7 +66,7 @@ pub(crate) struct Kind {
 }
 
 /// The kinds in the order of docs/REFUSALS.md.
-static KINDS: [Kind; 39] = [
+static KINDS: [Kind; 41] = [
     Kind {
         name: "ShortFile",
         what: "the file is shorter than a packet",
@@ -69,7 +77,7 @@ static KINDS: [Kind; 39] = [
         name: "Sync",
         what: "no packet of 188 bytes begins there",
         place: Place::File,
-        help: Help::Rewrite,
+        help: Help::OtherForm,
     },
     Kind {
         name: "ErrorFlag",
@@ -142,6 +150,18 @@ static KINDS: [Kind; 39] = [
         what: "the program's PMT doesn't fit a packet",
         place: Place::Nowhere,
         help: Help::Drop,
+    },
+    Kind {
+        name: "BadStart",
+        what: "no start code of a program stream stands there",
+        place: Place::File,
+        help: Help::Packets,
+    },
+    Kind {
+        name: "BadPack",
+        what: "a pack header isn't one of MPEG-2, as those of MPEG-1, which begin with the bits `0010` in place of `01`, aren't",
+        place: Place::File,
+        help: Help::Recode,
     },
     Kind {
         name: "BadPrefix",
@@ -295,9 +315,41 @@ static KINDS: [Kind; 39] = [
     },
 ];
 
-/// The kind of a name, as lines have it.
-pub(crate) fn kind_of(name: &str) -> Option<&'static Kind> {
-    for kind in &KINDS {
+/// Those of which something else is said where the file is a program stream.
+static PROGRAM_STREAM_KINDS: [Kind; 3] = [
+    Kind {
+        name: "ShortFile",
+        what: "the file is shorter than a pack header",
+        place: Place::Nowhere,
+        help: Help::Packets,
+    },
+    Kind {
+        name: "NoProgram",
+        what: "a program stream has one program, of number 1",
+        place: Place::Nowhere,
+        help: Help::NumberOne,
+    },
+    Kind {
+        name: "BadLength",
+        what: "a PES packet isn't as long as it states, or states no length",
+        place: Place::File,
+        help: Help::Packets,
+    },
+];
+
+/// The kind of a name, as lines have it, for a file of a form.
+pub(crate) fn kind_of(name: &str, form: Form) -> Option<&'static Kind> {
+    match form {
+        Form::Ts => kind_among(&KINDS, name),
+        Form::Ps => match kind_among(&PROGRAM_STREAM_KINDS, name) {
+            Some(kind) => Some(kind),
+            None => kind_among(&KINDS, name),
+        },
+    }
+}
+
+fn kind_among(kinds: &'static [Kind], name: &str) -> Option<&'static Kind> {
+    for kind in kinds {
         if kind.name == name {
             return Some(kind);
         }

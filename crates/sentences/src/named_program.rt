@@ -1,9 +1,10 @@
 //! The programs that a command names, and the streams that their files have for them.
 
 use crate::carrier::{StreamPid, packet_buffer};
-use crate::job_again::integer;
+use crate::job_again::{form_of, integer};
 use crate::line::End;
 use arrayvec::ArrayVec;
+use job_report::Form;
 use job_report::limits::{PROBE_SLOT, START_DEFAULT};
 use psi_tables::{STREAMS_MOST, Stream};
 use shelf_io::Reading;
@@ -22,6 +23,8 @@ const AUDIO: [u8; 2] = [0x03, 0x04];
 #[derive(Clone, Copy)]
 pub(crate) struct NamedProgram<'a> {
     pub(crate) file: &'a str,
+    /// The form of that file.
+    pub(crate) form: Form,
     /// Its program_number in the file.
     number: u16,
     /// The PIDs of audio streams that aren't carried.
@@ -37,6 +40,7 @@ impl<'a> NamedProgram<'a> {
         let number = end.word(2).parse::<u16>().ok()?;
         Some(NamedProgram {
             file: end.word(1),
+            form: Form::Ts,
             number,
             drop: &[],
             slot: u64::from(PROBE_SLOT),
@@ -46,6 +50,7 @@ impl<'a> NamedProgram<'a> {
 
     /// A program of a job, counted from 0.
     pub(crate) fn of_job(table: &'a Table, program: u64) -> Option<NamedProgram<'a>> {
+        let form = form_of(table, program);
         let programs = table.get("program").and_then(Value::as_array)?;
         let program = programs.get(program as usize)?;
         let number = program.get("program").and_then(Value::as_integer)?;
@@ -55,6 +60,7 @@ impl<'a> NamedProgram<'a> {
         };
         Some(NamedProgram {
             file: program.get("file").and_then(Value::as_str)?,
+            form,
             number: u16::try_from(number).ok()?,
             drop,
             slot: integer(table, "slot", 0),
@@ -62,11 +68,14 @@ impl<'a> NamedProgram<'a> {
         })
     }
 
-    /// The streams of the program that are carried, the video first; none where its file doesn't tell them.
+    /// The streams of the program that are carried, the video first; none where its file is no transport stream that tells them.
     pub(crate) fn streams<R: Files + AllocGlobal>(
         &self,
         rt: &R,
     ) -> Option<ArrayVec<StreamPid, STREAMS_MOST>> {
+        if let Form::Ps = self.form {
+            return None;
+        }
         let mut shelf = FileShelf::new(rt);
         let mut source = Reading::new(&mut shelf, self.file);
         let mut packets = packet_buffer(rt.alloc())?;

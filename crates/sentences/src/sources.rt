@@ -8,6 +8,7 @@ use crate::kinds::{Help, Place, kind_of};
 use crate::limits::limits_in_words;
 use crate::line::{End, number, text};
 use crate::named_program::NamedProgram;
+use job_report::Form;
 use serde_json::Value;
 use std::alloc::{AllocError, Global};
 use std::rt::Files;
@@ -60,6 +61,14 @@ fn named_file<'a>(program: Option<NamedProgram<'a>>) -> &'a str {
     }
 }
 
+/// The form of that file.
+fn named_form(program: Option<NamedProgram<'_>>) -> Form {
+    match program {
+        Some(program) => program.form,
+        None => Form::Ts,
+    }
+}
+
 /// What is wrong with a program, where, and what helps.
 fn refused_in<R: Files + AllocGlobal>(
     rt: &R,
@@ -70,13 +79,14 @@ fn refused_in<R: Files + AllocGlobal>(
     let alloc = rt.alloc();
     let name = text(line, "kind");
     let at = number(line, "at");
-    match kind_of(name) {
+    let form = named_form(program);
+    match kind_of(name, form) {
         None => { format!(in alloc; "{of} is refused: {name} at byte {at} (docs/REFUSALS.md)") }
         Some(kind) => {
             let place = place(rt, kind.place, program, at)?;
             let help = match kind.help {
                 Help::Shorter => limits_in_words(rt, program)?,
-                other => help(alloc, other, named_file(program), at)?,
+                other => help(alloc, other, named_file(program), form, at)?,
             };
             format!(in alloc;
                 "{of} is refused: {what} ({name}{place}); {help}",
@@ -86,8 +96,8 @@ fn refused_in<R: Files + AllocGlobal>(
     }
 }
 
-/// Where it is wrong: the byte, and in a file also the packet and how long after the file's first clock it comes. Of a byte of a
-/// stream it is the packet that carries it, where there is one such stream alone.
+/// Where it is wrong: the byte, and in a transport stream also the packet and how long after the file's first clock it comes. Of a byte
+/// of its video or audio it is the packet that carries it, where there is one such stream alone.
 fn place<R: Files + AllocGlobal>(
     rt: &R,
     place: Place,
@@ -100,10 +110,13 @@ fn place<R: Files + AllocGlobal>(
         Place::Video => place_in_stream(rt, "its video", program, true, at),
         Place::Audio => place_in_stream(rt, "an audio stream", program, false, at),
         Place::Stream => format!(in alloc; " at byte {at} of its video or an audio stream"),
-        Place::File => {
-            let packet = packet_in_words(rt, named_file(program), at)?;
-            format!(in alloc; " at byte {at}, {packet}")
-        }
+        Place::File => match named_form(program) {
+            Form::Ps => format!(in alloc; " at byte {at}"),
+            Form::Ts => {
+                let packet = packet_in_words(rt, named_file(program), at)?;
+                format!(in alloc; " at byte {at}, {packet}")
+            }
+        },
     }
 }
 
@@ -152,8 +165,15 @@ fn packet_in_words<R: Files + AllocGlobal>(
 }
 
 /// What helps, with the command where there is one.
-fn help(alloc: Global, help: Help, file: &str, at: u64) -> Result<String, AllocError> {
+fn help(alloc: Global, help: Help, file: &str, form: Form, at: u64) -> Result<String, AllocError> {
     match help {
+        Help::Packets => format!(in alloc;
+            "is it a program stream of MPEG-2? A transport stream wants no `form`, and `ffmpeg -i {file} -map 0 -c copy -f mpegts NEW` makes one of it"
+        ),
+        Help::OtherForm => format!(in alloc;
+            "if it is a program stream, a job reads it with `form = \"ps\"`; else write it anew as packets of 188 bytes: \
+             `ffmpeg -i {file} -map 0 -c copy -f mpegts NEW`"
+        ),
         Help::Rewrite => format!(in alloc;
             "write it anew as packets of 188 bytes: `ffmpeg -i {file} -map 0 -c copy -f mpegts NEW`"
         ),
@@ -165,7 +185,8 @@ fn help(alloc: Global, help: Help, file: &str, at: u64) -> Result<String, AllocE
         ),
         Help::Recode => format!(in alloc; "code it anew: `ffmpeg -i {file} {CODE}`"),
         Help::RecodeAudio => format!(in alloc;
-            "name its PID in `drop` of the job, or code it anew: `ffmpeg -i {file} -map 0 -c:v copy -c:a mp2 -af aresample=async=1 -f mpegts NEW`"
+            "name its {pid} in `drop` of the job, or code it anew: `ffmpeg -i {file} -map 0 -c:v copy -c:a mp2 -af aresample=async=1 -f mpegts NEW`",
+            pid = stream_number(form)
         ),
         Help::Times => format!(in alloc;
             "let its times be made anew: `ffmpeg -fflags +genpts -i {file} -map 0 -c copy -f mpegts NEW`, and for audio \
@@ -175,10 +196,19 @@ fn help(alloc: Global, help: Help, file: &str, at: u64) -> Result<String, AllocE
     }
 }
 
+/// By what a job names a stream of a file.
+fn stream_number(form: Form) -> &'static str {
+    match form {
+        Form::Ts => "PID",
+        Form::Ps => "stream id",
+    }
+}
+
 /// What helps without a command.
 fn advice(help: Help) -> &'static str {
     match help {
         Help::OtherFile => "is it the right file, and a transport stream?",
+        Help::NumberOne => "name `program = 1`",
         Help::Descramble => "descramble it first",
         Help::Drop => "name audio streams in `drop` of the job",
         Help::Broken =>

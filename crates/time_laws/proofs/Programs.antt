@@ -15,11 +15,11 @@ use Rattle.pes_units.specs.Times.{decoding_time}
 use Rattle.ts_demux.specs.declared.demuxed.AudioStream.{AudioStream}
 use Rattle.ts_demux.specs.declared.demuxed.Demuxed.{Demuxed}
 use Rattle.ts_demux.specs.declared.demuxed.PesUnit.{PesUnit}
-use Rattle.ts_demux.specs.Demux.{IsDemuxed, pes_packets_on}
 use Rattle.version_table.specs.declared.table.ProgramRow.{ProgramRow}
 use Rattle.version_table.specs.declared.table.Unit.{Unit as CodedUnit}
 use Rattle.version_table.specs.Choice.{HasVersion}
 use Rattle.slot_rule.specs.Sent.{choice_from}
+use Rattle.job_report.specs.declared.job.Form.{Form}
 use Rattle.job_report.specs.declared.job.ProgramJob.{ProgramJob}
 use Rattle.program_reader.specs.declared.pes_packets.PlacedPacket.{PlacedPacket}
 use Rattle.program_reader.specs.declared.program.AudioPiece.{AudioPiece}
@@ -28,10 +28,11 @@ use Rattle.program_reader.specs.declared.program.Program.{Program}
 use Rattle.program_reader.specs.declared.program.UnitSource.{UnitSource}
 use Rattle.program_reader.specs.declared.timed_picture.TimedPicture.{TimedPicture}
 use Rattle.program_reader.specs.Audio.{AreAudioSources, HaveFrames}
-use Rattle.program_reader.specs.Programs.{AreUnitSources, IsProgram, video_bytes, video_packets}
+use Rattle.program_reader.specs.Programs.{AreUnitSources, IsProgram, IsTakenOut, video_bytes, video_packets}
 use Rattle.program_reader.specs.Units.{AreInOrder, AreKept, IsTimed}
 use Rattle.version_maker.specs.declared.version.UnitVersion.{UnitVersion}
 use Rattle.version_source.specs.Versions.{AreAllVersions, AreVideoVersions, ratios_of}
+use Rattle.program_table.proofs.TakenOut.{its-streams}
 use Rattle.program_table.specs.Table.{audio_row, program_row, program_rows, unit_rows}
 use Rattle.job_programs.specs.Programs.{AreNextPrograms, IsNextProgram, last_time}
 use Rattle.mux_writer.specs.Layout.{map_pid, video_pid, with_output_pids, with_pids_from}
@@ -120,7 +121,7 @@ early-time slot time short within = omega (arith, short, within)
 
 -- the law that a file has one answer
 abbrev pub OneDemuxed : Type 0
-OneDemuxed = (file : List ℕ) (program : ℕ) (drop : List ℕ) (one other : Demuxed) → IsDemuxed file program drop one → IsDemuxed file program drop other → one ≡ other
+OneDemuxed = (form : Form) (file : List ℕ) (number : ℕ) (drop : List ℕ) (one other : Demuxed) → IsTakenOut form file number drop one → IsTakenOut form file number drop other → one ≡ other
 
 module _ (laws : SpellingLaws) (one : OneDemuxed) (wherever : WhereverItStands) (bytes : List ℕ) (stream : List PacketRecord) (slot start : ℕ) (short : slot ≤ 40000) where
   abbrev Early : List AudioPiece → Type 0
@@ -135,7 +136,7 @@ module _ (laws : SpellingLaws) (one : OneDemuxed) (wherever : WhereverItStands) 
       let es : List ℕ = video_bytes of.demuxed in
       let placed : List PlacedPacket = video_packets of.demuxed in
       let is : IsProgram start of.demuxed p = of.program_is in
-      let source : read.source ≡ of.demuxed = one content job.program job.drop.items read.source of.demuxed read.source_is of.demuxed_is in
+      let source : read.source ≡ of.demuxed = one job.form content job.program job.drop.items read.source of.demuxed read.source_is of.demuxed_is in
       let video : p.video ≡ es = is.video_is in
       let in_order : AreInOrder es placed [] is.kept is.pictures =
       kept-in-order es placed is.has_pictures.units.cuts is.kept is.pictures is.has_pictures.at_end is.has_pictures.kept_are in
@@ -153,16 +154,9 @@ module _ (laws : SpellingLaws) (one : OneDemuxed) (wherever : WhereverItStands) 
       let early_audio : AreEarly p.audios = early-audios p.audios next.within.audio_dues next.within.audio_gones in
       let streams : List Stream = p.map.streams.items in
       let many : length streams ≡ 1 + length (map audio_row p.audios) =
-      let carried = of.demuxed_is in
-      let own : length streams ≡ suc (length carried.audios) = ap (λ (m : ProgramMap). length m.streams.items) is.map_is ∙ ap length carried.streams in
-      omega (
-        arith,
-        own,
-        length-map p.audios audio_row,
-        sources-many start is.earliest of.demuxed.audios is.frames p.audios is.audios_are,
-        ap length carried.audio_packets,
-        length-map carried.audios (pes_packets_on content),
-      ) in
+      let own : length streams ≡ length of.demuxed.map.streams.items = ap (λ (m : ProgramMap). length m.streams.items) is.map_is in
+      let its = its-streams job.form content job.program job.drop.items of.demuxed of.demuxed_is in
+      omega (arith, own, its.as_many, length-map p.audios audio_row, sources-many start is.earliest of.demuxed.audios is.frames p.audios is.audios_are) in
       record {
         demuxed = read.demuxed;
         taken_out = read.taken_out;

@@ -25,8 +25,8 @@ use mux_writer::laws::read_as_written;
 use picture_heads::laws::head_without_delay_is_read;
 use picture_laws::pictures::spelled_picture_has_state;
 use picture_laws::written::written_picture_is_read;
+use program_reader::laws::one_answer;
 use requantiser::laws::version_is_lawful_behind;
-use ts_demux::laws::one_answer;
 use version_source::laws::one_list_of_versions;
 
 /// A job's stream carries the times of its table: its PCRs, its PES headers and its frames say when each unit is due, and when each

@@ -17,6 +17,7 @@ use Rattle.program_reader.specs.declared.pes_packets.PlacedPacket.{PlacedPacket}
 use Rattle.program_reader.specs.declared.program.Program.{Program}
 use Rattle.program_reader.specs.declared.program.UnitSource.{UnitSource}
 use Rattle.program_reader.specs.declared.timed_picture.TimedPicture.{TimedPicture}
+use Rattle.job_report.specs.declared.job.Form.{Form}
 use Rattle.program_reader.specs.Programs.{AreUnitSources, IsProgramOfFile, video_bytes, video_packets}
 use Rattle.program_reader.specs.Units.{AreKept, all, but_last}
 use Rattle.version_maker.specs.declared.version.UnitVersion.{UnitVersion}
@@ -157,9 +158,9 @@ first-source start earliest (u ∷ us) [] picture later sources are is = absurd 
 first-source start earliest (u ∷ us) (p ∷ ps) picture later [] are is = absurd are
 first-source start earliest (u ∷ us) (p ∷ ps) picture later (s ∷ ss) (begins, ends, times, due, kind, role, are) is = (u, us, s, ss, refl, refl, begins)
 
-pub program-versions : (content : List ℕ) (number : ℕ) (dropped : List ℕ) (start : ℕ) (program : Program) (coarser : List ℕ) (versions : List (List UnitVersion)) → AreBytes program.video
-    → IsProgramOfFile content number dropped start program → AreVideoVersions program.video coarser None program.units versions → AreWholeVersions None versions × BeginWithSequence versions
-program-versions content number dropped start program coarser versions are of is =
+pub program-versions : (form : Form) (content : List ℕ) (number : ℕ) (dropped : List ℕ) (start : ℕ) (program : Program) (coarser : List ℕ) (versions : List (List UnitVersion)) → AreBytes program.video
+    → IsProgramOfFile form content number dropped start program → AreVideoVersions program.video coarser None program.units versions → AreWholeVersions None versions × BeginWithSequence versions
+program-versions form content number dropped start program coarser versions are of is =
     let program_is = of.program_is in
     let es : List ℕ = video_bytes of.demuxed in
     let bytes : AreBytes es = subst AreBytes program_is.video_is are in

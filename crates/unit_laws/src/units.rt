@@ -5,6 +5,7 @@ ghost use Rattle.bit_lists.specs.Fields.{AreBytes};
 ghost use Rattle.syntax_types.specs.declared.picture.Picture.{Picture};
 ghost use Rattle.syntax_types.specs.declared.picture.SeqState.{SeqState};
 ghost use Rattle.picture_grammar.specs.Picture.{SpellsPicture};
+ghost use Rattle.job_report.specs.declared.job.Form.{Form};
 ghost use Rattle.program_reader.specs.declared.program.Program.{Program};
 ghost use Rattle.program_reader.specs.Programs.{IsProgramOfFile};
 ghost use Rattle.version_maker.specs.declared.version.UnitVersion.{UnitVersion};
@@ -15,11 +16,11 @@ ghost use Rattle.unit_laws.specs.WholeVersions.{AreWholeVersions, BeginWithSeque
 /// Each version of each unit of a program whose video is bytes is a unit again, whole by its own bytes and with no start code inside a slice, and is
 /// read behind the state that the unit before leaves, in whichever version that goes out; and the first unit's versions begin with a sequence header.
 pub fn versions_are_whole_units()
-    ensures whole { (content : List ℕ) (number : ℕ) (dropped : List ℕ) (start : ℕ) (program : Program) (coarser : List ℕ) (versions : List (List UnitVersion))
-        → AreBytes program.video → IsProgramOfFile content number dropped start program → AreVideoVersions program.video coarser None program.units versions
+    ensures whole { (form : Form) (content : List ℕ) (number : ℕ) (dropped : List ℕ) (start : ℕ) (program : Program) (coarser : List ℕ) (versions : List (List UnitVersion))
+        → AreBytes program.video → IsProgramOfFile form content number dropped start program → AreVideoVersions program.video coarser None program.units versions
         → AreWholeVersions None versions }
-    ensures led { (content : List ℕ) (number : ℕ) (dropped : List ℕ) (start : ℕ) (program : Program) (coarser : List ℕ) (versions : List (List UnitVersion))
-        → AreBytes program.video → IsProgramOfFile content number dropped start program → AreVideoVersions program.video coarser None program.units versions
+    ensures led { (form : Form) (content : List ℕ) (number : ℕ) (dropped : List ℕ) (start : ℕ) (program : Program) (coarser : List ℕ) (versions : List (List UnitVersion))
+        → AreBytes program.video → IsProgramOfFile form content number dropped start program → AreVideoVersions program.video coarser None program.units versions
         → BeginWithSequence versions }
 {}
 

@@ -5,6 +5,7 @@ ghost use Rattle.pes_units.specs.VideoHeader.{written_pes_header};
 ghost use Rattle.pes_units.specs.PesPieces.{pes_pieces};
 ghost use Rattle.slot_rule.specs.Queues.{payloads};
 ghost use Rattle.ts_demux.specs.declared.demuxed.Demuxed.{Demuxed};
+ghost use Rattle.job_report.specs.declared.job.Form.{Form};
 ghost use Rattle.program_reader.specs.declared.program.Program.{Program};
 ghost use Rattle.program_reader.specs.declared.program.UnitSource.{UnitSource};
 ghost use Rattle.program_reader.specs.Programs.{IsProgram, IsProgramOfFile};
@@ -39,7 +40,7 @@ pub fn packet_has_size_of_version()
 /// A program that was read can be sent.
 pub fn programs_can_be_sent()
     ensures taken_out { (start : ℕ) (demuxed : Demuxed) (program : Program) → IsProgram start demuxed program → IsSendable program }
-    ensures of_file { (file : List ℕ) (number : ℕ) (drop : List ℕ) (start : ℕ) (program : Program) → IsProgramOfFile file number drop start program → IsSendable program }
+    ensures of_file { (form : Form) (file : List ℕ) (number : ℕ) (drop : List ℕ) (start : ℕ) (program : Program) → IsProgramOfFile form file number drop start program → IsSendable program }
 {}
 
 /// The items of a slice of bytes are bytes.

@@ -4,7 +4,7 @@ ghost use Rattle.version_source.specs.Sendable.{IsSendable, IsUnitOf, SpellInOrd
 ghost use Rattle.version_source.specs.Versions.{AreVideoVersions};
 ghost use Rattle.version_source_tests.specs.Private.Kept.{AreKept};
 
-use job_report::ProgramJob;
+use job_report::{Form, ProgramJob};
 use list_types::{ListOf, Text};
 use program_maker::make_program;
 use program_reader::{Program, UnitSource, read_program};
@@ -79,7 +79,7 @@ fn program_of(alloc: Global, seed: u64, pictures: u16) -> Result<Program, Fail>
 {
     let file = make_program(alloc, seed, u32::from(pictures))?;
     programs_can_be_sent();
-    let program = read_program(alloc, file.as_slice(), 1, &[], START)?;
+    let program = read_program(alloc, file.as_slice(), Form::Ts, 1, &[], START)?;
     Ok(program)
 }
 

@@ -1,6 +1,7 @@
 //! OUT as the source of a second job, and of `probe`: its units, times and audio agree.
 
 use crate::shelves::{ROOMY, Ran, TIGHT, probe_over, run_over};
+use job_report::Form;
 use program_maker::make_program;
 use program_reader::{AudioSource, Program, read_program};
 use std::alloc::Global;
@@ -16,7 +17,7 @@ fn are_same_audio(first: &AudioSource, second: &AudioSource) -> bool {
 }
 
 /// Whether two programs have one audio stream each, the same in both.
-fn have_same_audio(first: &Program, second: &Program) -> bool {
+pub fn have_same_audio(first: &Program, second: &Program) -> bool {
     match (first.audios.as_slice(), second.audios.as_slice()) {
         ([one], [other]) => are_same_audio(one, other),
         _ => false,
@@ -24,7 +25,7 @@ fn have_same_audio(first: &Program, second: &Program) -> bool {
 }
 
 /// Whether two programs have as many units, with the same times.
-fn have_same_times(first: &Program, second: &Program) -> bool {
+pub fn have_same_times(first: &Program, second: &Program) -> bool {
     for (at, unit) in first.units.as_slice().iter().enumerate() {
         match second.units.as_slice().get(at) {
             Some(other) if other.times == unit.times && other.due == unit.due => {}
@@ -36,9 +37,9 @@ fn have_same_times(first: &Program, second: &Program) -> bool {
 
 /// Whether OUT has the times and the audio of its source, and a second run over OUT gives OUT's very units again.
 fn agree(alloc: Global, file: &[u8], first: &Ran, second: &Ran) -> Result<bool, Fail> {
-    let source = read_program(alloc, file, 1, &[], START)?;
-    let sent = read_program(alloc, first.stream.as_slice(), 1, &[], START)?;
-    let again = read_program(alloc, second.stream.as_slice(), 1, &[], START)?;
+    let source = read_program(alloc, file, Form::Ts, 1, &[], START)?;
+    let sent = read_program(alloc, first.stream.as_slice(), Form::Ts, 1, &[], START)?;
+    let again = read_program(alloc, second.stream.as_slice(), Form::Ts, 1, &[], START)?;
     Ok(
         have_same_times(&source, &sent)
             && have_same_audio(&source, &sent)

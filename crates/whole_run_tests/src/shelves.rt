@@ -66,10 +66,15 @@ fn content(alloc: Global, file: Option<&[u8]>) -> Result<Vec<u8>, AllocError> {
 
 /// Runs a job over a file `a.ts`.
 pub fn run_over(alloc: Global, job: &str, file: &[u8]) -> Result<Ran, Fail> {
-    let words = run_words(alloc)?;
     let mut shelf = CalmShelf::new(alloc);
-    shelf.put_file("job.toml", job.as_bytes())?;
     shelf.put_file("a.ts", file)?;
+    run_on(alloc, job, shelf)
+}
+
+/// Runs a job over the files of a shelf.
+pub fn run_on(alloc: Global, job: &str, mut shelf: CalmShelf) -> Result<Ran, Fail> {
+    let words = run_words(alloc)?;
+    shelf.put_file("job.toml", job.as_bytes())?;
     let mut out = VecSink::new(alloc);
     let status = run(alloc, words.as_slice(), &mut shelf, &mut out);
     Ok(Ran {

@@ -2,6 +2,7 @@
 
 use crate::kept_versions::is_of_versions;
 use crate::shelves::{ROOMY, Ran, TIGHT, is_between, run_over};
+use job_report::Form;
 use program_maker::make_program;
 use program_reader::{Program, read_program};
 use std::alloc::Global;
@@ -43,8 +44,8 @@ fn choice_of(certificate: &[u8], units: usize) -> &[u8] {
 /// Whether OUT has the program's audio, and its pictures in the versions that the certificate names, made again with every
 /// version kept. All are the source's own where `only_sources`.
 fn is_sent(alloc: Global, ran: &Ran, file: &[u8], only_sources: bool) -> Result<bool, Fail> {
-    let program = read_program(alloc, file, 1, &[], START)?;
-    let stream = read_program(alloc, ran.stream.as_slice(), 1, &[], START)?;
+    let program = read_program(alloc, file, Form::Ts, 1, &[], START)?;
+    let stream = read_program(alloc, ran.stream.as_slice(), Form::Ts, 1, &[], START)?;
     let units = program.units.len();
     let choice = choice_of(ran.certificate.as_slice(), units);
     if stream.units.len() != units || choice.len() != units || has_coarser(choice) == only_sources {

@@ -1,5 +1,6 @@
 -- Programs behind others, by the sums of what is before them, and of all of them at once.
 use Rattle.std.specs.Prelude.{◌≡◌, ℕ, ◌+◌, ◌<◌, ◌≤◌, List, [], ◌∷◌, length, All}
+use Rattle.job_report.specs.declared.job.Form.{Form}
 use Rattle.job_report.specs.declared.job.ProgramJob.{ProgramJob}
 use Rattle.program_reader.specs.declared.limits.TheConstants.{FILE_BYTES_MOST, UNITS_MOST}
 use Rattle.program_reader.specs.declared.program.AudioPiece.{AudioPiece}
@@ -24,29 +25,29 @@ pub record KeepsTime (slot : ℕ) (program : Program) : Type 0 where
 
 -- Behind files of so many bytes, whose programs have so many units: a file holds this program of a number, the limits that they
 -- share are kept, and what it takes of its table.
-pub record IsProgramBehind (slot start bytes units number : ℕ) (drop : List ℕ) (keeps : Program → Type 0) (content : List ℕ) (program : Program) : Type 0 where
+pub record IsProgramBehind (slot start bytes units : ℕ) (form : Form) (number : ℕ) (drop : List ℕ) (keeps : Program → Type 0) (content : List ℕ) (program : Program) : Type 0 where
   pub few_bytes : bytes + length content ≤ FILE_BYTES_MOST
-  pub holds : IsProgramOfFile content number drop start program
+  pub holds : IsProgramOfFile form content number drop start program
   pub few_units : units + length program.units ≤ UNITS_MOST
   pub within : KeepsTime slot program
   pub near : keeps program
 
 -- What refuses the next program, in this order: the bytes of the files together; what refuses the file by itself; the units of the
 -- programs together, a time past the last, and what it takes of its table.
-pub data IsRefusedBehind (slot start bytes units number : ℕ) (drop : List ℕ) (keeps : Program → Type 0) (content : List ℕ) (kind : SourceKind) (at : ℕ) : Type 0 where
+pub data IsRefusedBehind (slot start bytes units : ℕ) (form : Form) (number : ℕ) (drop : List ℕ) (keeps : Program → Type 0) (content : List ℕ) (kind : SourceKind) (at : ℕ) : Type 0 where
   many_bytes : FILE_BYTES_MOST < bytes + length content → kind ≡ ProgramLimit → at ≡ 0
-      → IsRefusedBehind slot start bytes units number drop keeps content kind at
-  file : bytes + length content ≤ FILE_BYTES_MOST → IsProgramRefused content number drop (Refused kind at)
-      → IsRefusedBehind slot start bytes units number drop keeps content kind at
-  many_units : (program : Program) → bytes + length content ≤ FILE_BYTES_MOST → IsProgramOfFile content number drop start program
+      → IsRefusedBehind slot start bytes units form number drop keeps content kind at
+  file : bytes + length content ≤ FILE_BYTES_MOST → IsProgramRefused form content number drop (Refused kind at)
+      → IsRefusedBehind slot start bytes units form number drop keeps content kind at
+  many_units : (program : Program) → bytes + length content ≤ FILE_BYTES_MOST → IsProgramOfFile form content number drop start program
       → UNITS_MOST < units + length program.units → kind ≡ ProgramLimit → at ≡ 0
-      → IsRefusedBehind slot start bytes units number drop keeps content kind at
-  late : (program : Program) → bytes + length content ≤ FILE_BYTES_MOST → IsProgramOfFile content number drop start program
+      → IsRefusedBehind slot start bytes units form number drop keeps content kind at
+  late : (program : Program) → bytes + length content ≤ FILE_BYTES_MOST → IsProgramOfFile form content number drop start program
       → ¬ KeepsTime slot program → kind ≡ ProgramLimit → at ≡ 0
-      → IsRefusedBehind slot start bytes units number drop keeps content kind at
-  far : (program : Program) → bytes + length content ≤ FILE_BYTES_MOST → IsProgramOfFile content number drop start program
+      → IsRefusedBehind slot start bytes units form number drop keeps content kind at
+  far : (program : Program) → bytes + length content ≤ FILE_BYTES_MOST → IsProgramOfFile form content number drop start program
       → ¬ keeps program → kind ≡ ProgramLimit → at ≡ 0
-      → IsRefusedBehind slot start bytes units number drop keeps content kind at
+      → IsRefusedBehind slot start bytes units form number drop keeps content kind at
 
 -- ---- all programs
 
@@ -56,7 +57,7 @@ job_keeps job program = KeepsShare job.weight job.drift job.coarser.items progra
 
 -- a file holds the program that a job wants of it, and that keeps its share
 pub record HoldsKept (start : ℕ) (job : ProgramJob) (content : List ℕ) (program : Program) : Type 0 where
-  pub holds : IsProgramOfFile content job.program job.drop.items start program
+  pub holds : IsProgramOfFile job.form content job.program job.drop.items start program
   pub near : job_keeps job program
 
 -- so does each file

@@ -52,7 +52,7 @@ pub record HasWalked (drop : List ℕ) (elements : List Element) (walk : StreamW
   pub others : walk.others ≡ others_beside drop (first_video_id elements) elements
 
 -- what is taken out of these elements
-pub record IsTakenOut (drop : List ℕ) (elements : List Element) (demuxed : Demuxed) : Type 0 where
+pub record IsOfElements (drop : List ℕ) (elements : List Element) (demuxed : Demuxed) : Type 0 where
   pub video : ℕ
   pub video_is : first_video_id elements ≡ Some video
   pub few : length (carried_audio_ids drop elements) ≤ AUDIOS_MOST

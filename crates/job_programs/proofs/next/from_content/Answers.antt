@@ -7,4 +7,4 @@ use Rattle.job_programs.proofs.next.from_content.Goals as goal
 pub returns-in-Err-Refused-clause-fault : goal.returns-in-Err-Refused-clause-fault
 returns-in-Err-Refused-clause-fault c =
     let w = c.args.wanted.now in
-    (refl, subst (λ (f : ProgramFault). IsNextFault w.slot w.start w.bytes w.units w.number w.drop.now (KeepsShare w.weight w.drift w.coarser.now) c.args.content.now f) c.in-Err-Refused.field-0-is c.in-Err-Refused.ensures.program)
+    (refl, subst (λ (f : ProgramFault). IsNextFault w.slot w.start w.bytes w.units w.form w.number w.drop.now (KeepsShare w.weight w.drift w.coarser.now) c.args.content.now f) c.in-Err-Refused.field-0-is c.in-Err-Refused.ensures.program)

@@ -1,4 +1,5 @@
 use Rattle.std.proofs.Common.{rules, ◌≡◌, ℕ, List, ◌+◌, ◌<◌, ◌≤◌, ◌↔◌, Bool, true, false, IsTrue, inl, inr, length, refl, arith}
+use Rattle.job_report.specs.declared.job.Form.{Form}
 use Rattle.program_reader.specs.declared.limits.TheConstants.{FILE_BYTES_MOST, UNITS_MOST}
 use Rattle.std.proofs.lemmas.Result.{err_from_is_err_and}
 use Rattle.program_reader.specs.declared.program_fault.ProgramFault.{ProgramFault}
@@ -10,17 +11,17 @@ use Rattle.job_programs.specs.Private.Behind.{file, many_units, late, far}
 use Rattle.job_programs.specs.Private.Next.{IsNextFault}
 use Rattle.job_programs.proofs.next.next_program.Goals as goal
 
-by-file : (slot start bytes units number : ℕ) (drop : List ℕ) (keeps : Program → Type 0) (content : List ℕ) (fault : ProgramFault) → bytes + length content ≤ FILE_BYTES_MOST → IsProgramRefused content number drop fault
-    → IsNextFault slot start bytes units number drop keeps content fault
-by-file slot start bytes units number drop keeps content (Refused kind at) few bad = file few bad
-by-file slot start bytes units number drop keeps content OutOfMemory few bad = tt
+by-file : (slot start bytes units : ℕ) (form : Form) (number : ℕ) (drop : List ℕ) (keeps : Program → Type 0) (content : List ℕ) (fault : ProgramFault) → bytes + length content ≤ FILE_BYTES_MOST → IsProgramRefused form content number drop fault
+    → IsNextFault slot start bytes units form number drop keeps content fault
+by-file slot start bytes units form number drop keeps content (Refused kind at) few bad = file few bad
+by-file slot start bytes units form number drop keeps content OutOfMemory few bad = tt
 
 pub returns-in_err-sized-clause-program : goal.returns-in_err-sized-clause-program
 returns-in_err-sized-clause-program c =
     let p = err_from_is_err_and c.from_residual.result c.from_residual.ensures.1 in
     let w = c.args.wanted.now in
     let few : w.bytes + length c.args.content.now ≤ FILE_BYTES_MOST = omega (arith, c.if-content-wanted.false, c.requires.bytes) in
-    rw (p.1, p.2) (by-file w.slot w.start w.bytes w.units w.number w.drop.now (KeepsShare w.weight w.drift w.coarser.now) c.args.content.now c.in_err-sized.field-0.0 few c.in_err-sized.ensures.program)
+    rw (p.1, p.2) (by-file w.slot w.start w.bytes w.units w.form w.number w.drop.now (KeepsShare w.weight w.drift w.coarser.now) c.args.content.now c.in_err-sized.field-0.0 few c.in_err-sized.ensures.program)
 
 is-not : (r : Bool) (P : Type 0) → (IsTrue r ↔ P) → r ≡ false → ¬ P
 is-not r P decides fails = λ holds. let yes : r ≡ true = decides.1 holds in cc

@@ -25,6 +25,7 @@ returns-in-Err-read c =
 pub returns-in-Ok-read : goal.returns-in-Ok-read
 returns-in-Ok-read c =
     stream_read c.args.first.now.time c.args.stream.now c.as_slice.result.now c.in-Ok.taken c.as_slice-2.result.now c.as_slice-3.result.now c.in_ok-starts.starts.items
-    c.as_slice-4.result.now c.in-Ok-read.frames c.as_slice.ensures c.in-Ok.ensures c.as_slice-2.ensures.value c.as_slice-3.ensures.value c.as_slice-4.ensures.value
+    c.as_slice-4.result.now c.in-Ok-read.frames c.as_slice-5.result.now c.audio_type-kind.result c.as_slice.ensures c.in-Ok.ensures c.as_slice-2.ensures.value c.as_slice-3.ensures.value c.as_slice-4.ensures.value
     c.in_ok-starts.ensures.starts c.in_ok-starts.ensures.near c.in-Ok-read.ensures.frames
-    (taken_size c.as_slice.result.now c.in-Ok.taken c.as_slice-3.result.now c.in-Ok.ensures c.as_slice-3.ensures.value (rw c.as_slice.ensures c.requires.size))
+    (taken_size c.as_slice.result.now c.in-Ok.taken c.as_slice-3.result.now c.in-Ok.ensures c.as_slice-3.ensures.value (rw c.as_slice.ensures c.requires.size)) c.as_slice-5.ensures.value
+    c.audio_type-kind.ensures

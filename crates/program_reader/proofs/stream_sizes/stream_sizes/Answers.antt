@@ -1,22 +1,15 @@
-use Rattle.std.proofs.Common.{◌≡◌, List, ◌∷◌, length, sym, ap, ◌∙◌, subst, arith, All}
-use Rattle.std.proofs.lemmas.List.{length-map}
-use Rattle.psi_tables.specs.declared.stream.Stream.{Stream}
-use Rattle.ts_demux.specs.Demux.{pes_packets_on}
-use Rattle.ts_demux.specs.declared.demuxed.AudioStream.{AudioStream}
-use Rattle.ts_demux.specs.declared.demuxed.PesUnit.{PesUnit}
-use Rattle.program_reader.proofs.SizeLemmas.{IsSmall, stream_small, audios_small}
+use Rattle.program_reader.proofs.SizeLemmas.{video_small, audios_are_small, few_audios, one_cut}
 use Rattle.program_reader.proofs.stream_sizes.stream_sizes.Goals as goal
 
 pub returns-clause-video_small : goal.returns-clause-video_small
-returns-clause-video_small c = λ file number drop demuxed within is.
-    (subst (λ (units : List PesUnit). IsSmall units) (sym is.video_packets) (stream_small file is.video within))
+returns-clause-video_small c = λ form file number drop found cut within is. video_small c.within_file.ensures.video form file number drop found cut within is
 
 pub returns-clause-audios_small : goal.returns-clause-audios_small
-returns-clause-audios_small c = λ file number drop demuxed within is k d lt.
-    (subst (λ (streams : List AudioStream). All (λ (stream : AudioStream). IsSmall stream.units) streams) (sym is.audio_packets) (audios_small file is.audios within) k d lt)
+returns-clause-audios_small c = λ form file number drop found cut within is.
+    (λ k d lt. audios_are_small c.within_file.ensures.audios form file number drop found cut within is k d lt)
 
 pub returns-clause-few_audios : goal.returns-clause-few_audios
-returns-clause-few_audios c = λ file number drop demuxed is.
-    let streams : length demuxed.map.streams.items ≡ length (is.video ∷ is.audios) = ap (λ (xs : List Stream). length xs) is.streams in
-    let audios : length demuxed.audios ≡ length is.audios = ap (λ (xs : List AudioStream). length xs) is.audio_packets ∙ length-map is.audios (pes_packets_on file) in
-    omega (arith, streams, audios, is.few)
+returns-clause-few_audios c = λ form file number drop found cut is. few_audios c.within_file.ensures.few_audios form file number drop found cut is
+
+pub returns-clause-cut : goal.returns-clause-cut
+returns-clause-cut c = λ form file number drop found cut is. one_cut c.within_file.ensures.cut form file number drop found cut is

@@ -23,7 +23,7 @@ returns c job contents programs table choice slots stream valid are of table_val
     } in
     let rows = c.slots_are_rows.ensures job contents programs table choice slots versions valid are of table_valid fits list in_slots.are_versions in
     subst (CarriesTable table choice (map (λ (program : ProgramJob). program.number) job.programs)) (sym in_slots.stream_is)
-    (times-carried spelling c.one_answer.ensures.demuxed c.audio_packet_wherever_it_stands.ensures job contents programs table choice slots pieces versions valid are of.slot
+    (times-carried spelling c.one_answer.ensures.taken_out c.audio_packet_wherever_it_stands.ensures job contents programs table choice slots pieces versions valid are of.slot
     (of.rows ∙ ap (program_rows job.programs programs) same) in_slots.are_versions table_valid fits list rows.is_layout.bases
     (c.read_as_written.ensures (layout_of job programs) job.slot pieces slots.rows rows.is_layout rows.few rows.each)
     (c.programs_are_read_back.ensures job contents programs table choice slots versions valid are of table_valid fits list in_slots.are_versions bytes)

@@ -1,0 +1,14 @@
+use Rattle.std.proofs.Common.{codes}
+use Rattle.job_report.specs.Field.{optional_field, is_text, is_form}
+use Rattle.job_report.proofs.FieldLaws.{wrong_tells, right_tells, left_out_right}
+use Rattle.job_report.proofs.fields.optional_form.Goals as goal
+
+pub returns-in-None-clause-right : goal.returns-in-None-clause-right
+returns-in-None-clause-right c = left_out_right _ _ _ _ _ c.in-None.ensures
+
+pub returns-in-Ok-clause-right : goal.returns-in-Ok-clause-right
+returns-in-Ok-clause-right c = right_tells _ _ _ _ c.in-Some.ensures c.in-Ok.ensures.right
+
+pub returns-in-Err-clause-wrong : goal.returns-in-Err-clause-wrong
+returns-in-Err-clause-wrong c = wrong_tells _ _ (optional_field (codes "form") is_text is_form) _ c.in-Err.wrong _
+    c.in-Some.ensures c.in-Err.ensures.wrong c.wrong_fault.ensures
