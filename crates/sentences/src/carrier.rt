@@ -1,5 +1,7 @@
 //! Which packet of a file carries a byte of the video or of an audio stream.
 
+ghost use Rattle.std.specs.Prelude.{◌≡◌, [], IfSome};
+
 use pes_walk::PesWalk;
 use shelf_io::Reading;
 use shelf_kinds::FileShelf;
@@ -21,8 +23,10 @@ pub(crate) struct Carrier {
     pub(crate) at: u64,
 }
 
-/// A room for the packets of a file; none where memory is wanting.
-pub(crate) fn packet_buffer(alloc: Global) -> Option<PacketBuffer> {
+/// A buffer for the packets of a file, which holds nothing yet; none where memory is wanting.
+pub(crate) fn packet_buffer(alloc: Global) -> Option<PacketBuffer>
+    ensures { IfSome result (λ buffer. buffer ≡ []) }
+{
     match vec![in alloc; 0u8; ROOM_BYTES] {
         Ok(room) => Some(PacketBuffer::new(room)),
         Err(_) => None,
