@@ -1,19 +1,22 @@
 ghost use Rattle.std.specs.Prelude.{◌≤◌, length};
 
+use crate::progress::Row;
 use shelf_io::{Fault, Sink};
 use std::alloc::Global;
 
-/// A sink that hands all on to another one, and keeps what that took.
+/// A sink that hands all on to another one, and keeps what that took. The row in which progress is told is cleared first.
 #[derive(Drop)]
-pub(crate) struct HeardSink<O> {
+pub(crate) struct HeardSink<'a, R, O> {
+    row: Row<'a, R>,
     out: O,
     line: Vec<u8>,
 }
 
-impl<O: Sink> HeardSink<O> {
+impl<'a, R: Eprint, O: Sink> HeardSink<'a, R, O> {
     /// Before anything was written.
-    pub(crate) fn new(alloc: Global, out: O) -> HeardSink<O> {
+    pub(crate) fn new(alloc: Global, row: Row<'a, R>, out: O) -> HeardSink<'a, R, O> {
         HeardSink {
+            row,
             out,
             line: Vec::new(alloc),
         }
@@ -25,7 +28,7 @@ impl<O: Sink> HeardSink<O> {
     }
 }
 
-impl<O: Sink> Sink for HeardSink<O> {
+impl<'a, R: Eprint, O: Sink> Sink for HeardSink<'a, R, O> {
     ghost written = { λ sink. O.written sink.out };
 
     ghost faults = { λ sink. O.faults sink.out };
@@ -39,6 +42,7 @@ impl<O: Sink> Sink for HeardSink<O> {
     ghost keeps_on = { λ first second third. O.keeps_on first.out second.out third.out };
 
     fn put(&mut self, piece: &[u8]) -> Result<usize, Fault> {
+        self.row.clear();
         match self.out.put(piece) {
             Ok(taken) => {
                 hear(&mut self.line, piece, taken);

@@ -2,6 +2,7 @@
 
 use crate::amounts::{Megabits, Rate, Seconds};
 use crate::buffers::coarse_programs;
+use crate::coarser::coarser_pictures;
 use crate::job_again::job_table;
 use crate::jumps::long_waits;
 use crate::line::{End, list, number};
@@ -72,7 +73,8 @@ fn rate_with_room<R: Files + AllocGlobal>(
     }
 }
 
-/// What is said after a run, a sentence a line: programs without sound, programs that a small buffer makes coarser, and times that jump.
+/// What is said after a run, a sentence a line: how many pictures go out coarser, programs without sound, programs that a small buffer makes
+/// coarser, and times that jump.
 pub(crate) fn after_run<R: Files + AllocGlobal>(
     rt: &R,
     end: &End<'_>,
@@ -80,6 +82,7 @@ pub(crate) fn after_run<R: Files + AllocGlobal>(
 ) -> Result<Option<String>, AllocError> {
     let alloc = rt.alloc();
     let mut said = String::new(alloc);
+    add_sentence(&mut said, coarser_pictures(alloc, end, line)?)?;
     add_sentence(&mut said, silent_programs(alloc, end, line)?)?;
     if let Some(table) = job_table(rt, end.word(1)) {
         add_sentence(&mut said, coarse_programs(rt, end, line, &table)?)?;

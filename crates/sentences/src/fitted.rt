@@ -1,17 +1,24 @@
 //! What is said of the slots in which a job fits, and of those in which it misses.
 
 use crate::amounts::{Milliseconds, Rate};
+use crate::job_again::job_table;
 use crate::line::{End, list, number, text};
+use crate::owners::{Owner, owner_in_words, owners_of_job};
 use dual_bounds::constants::MARGIN_TICKS;
 use serde_json::Value;
 use std::alloc::{AllocError, Global};
+use std::rt::Files;
 use version_table::limits::{SLOT_LEAST, SLOT_MOST};
 
 /// The longest slot of a list in which a job fits, with its rate, and of each slot that misses by how much.
-pub(crate) fn fitting(alloc: Global, end: &End<'_>, line: &Value) -> Result<String, AllocError> {
+pub(crate) fn fitting<R: Files + AllocGlobal>(
+    rt: &R,
+    end: &End<'_>,
+    line: &Value,
+) -> Result<String, AllocError> {
     let slot = number(line, "fit");
-    let misses = misses(alloc, line)?;
-    format!(in alloc;
+    let misses = misses_of_job(rt, end, line)?;
+    format!(in rt.alloc();
         "{job}: it fits in slots of {slot} ticks, {rate} Mbit/s, and in no longer ones of {list}{misses}",
         job = end.word(1),
         rate = Rate { slot },
@@ -20,9 +27,13 @@ pub(crate) fn fitting(alloc: Global, end: &End<'_>, line: &Value) -> Result<Stri
 }
 
 /// That a job fits in no slot of a list, and by how much it misses in each.
-pub(crate) fn no_fit(alloc: Global, end: &End<'_>, line: &Value) -> Result<String, AllocError> {
-    let misses = misses(alloc, line)?;
-    format!(in alloc;
+pub(crate) fn no_fit<R: Files + AllocGlobal>(
+    rt: &R,
+    end: &End<'_>,
+    line: &Value,
+) -> Result<String, AllocError> {
+    let misses = misses_of_job(rt, end, line)?;
+    format!(in rt.alloc();
         "{job}: it fits in no slot of {list}{misses}; shorter slots, more and greater numbers in `coarser`, or a later `start` may help",
         job = end.word(1),
         list = end.word(2)
@@ -47,32 +58,60 @@ pub(crate) fn refused_list(
     }
 }
 
-/// What is said of each slot of a line that isn't scheduled, behind a semicolon each.
-fn misses(alloc: Global, line: &Value) -> Result<String, AllocError> {
+/// What is said of each slot of a line that isn't scheduled, with the programs of the job.
+fn misses_of_job<R: Files + AllocGlobal>(
+    rt: &R,
+    end: &End<'_>,
+    line: &Value,
+) -> Result<String, AllocError> {
+    match job_table(rt, end.word(1)) {
+        Some(table) => misses(rt.alloc(), owners_of_job(rt, &table).as_slice(), line),
+        None => misses(rt.alloc(), &[], line),
+    }
+}
+
+/// The same, behind a semicolon each.
+fn misses(alloc: Global, owners: &[Owner<'_>], line: &Value) -> Result<String, AllocError> {
     let mut said = String::new(alloc);
     for slot in list(line, "slots") {
-        let miss = miss(alloc, slot)?;
+        let miss = miss(alloc, owners, slot)?;
         said.push_str(miss.as_str())?;
     }
     Ok(said)
 }
 
 /// What is said of one slot; nothing where it is scheduled.
-fn miss(alloc: Global, said: &Value) -> Result<String, AllocError> {
+fn miss(alloc: Global, owners: &[Owner<'_>], said: &Value) -> Result<String, AllocError> {
     let slot = number(said, "slot");
     let rate = Rate { slot };
     match text(said, "verdict") {
-        "missed" => format!(in alloc;
-            "; in slots of {slot} ticks, {rate} Mbit/s, unit {unit} of stream {stream} comes {late} ms late at least",
-            unit = number(said, "unit"),
-            stream = number(said, "stream"),
-            late = lateness(slot, said)
-        ),
+        "missed" => {
+            let stream = number(said, "stream");
+            let owner = owner_in_parentheses(alloc, owners, stream)?;
+            format!(in alloc;
+                "; in slots of {slot} ticks, {rate} Mbit/s, unit {unit} of stream {stream}{owner} comes {late} ms late at least",
+                unit = number(said, "unit"),
+                late = lateness(slot, said)
+            )
+        }
         "limit" => format!(in alloc;
             "; of slots of {slot} ticks, {rate} Mbit/s, no stream has as many as its times want"
         ),
         _ => Ok(String::new(alloc)),
     }
+}
+
+/// Which program a stream is of; nothing where that isn't known.
+fn owner_in_parentheses(
+    alloc: Global,
+    owners: &[Owner<'_>],
+    stream: u64,
+) -> Result<String, AllocError> {
+    let owner = owner_in_words(alloc, owners, stream)?;
+    if owner.is_empty() {
+        return Ok(owner);
+    }
+    format!(in alloc; " ({owner})")
 }
 
 /// By how much the packet of a miss comes late at least: it isn't there a margin behind the end of its packet slot.

@@ -66,6 +66,17 @@ fn text_of<'a>(table: &'a Table, program: u64, name: &str) -> Option<&'a str> {
     program.get(name).and_then(Value::as_str)
 }
 
+/// A whole number of a job's text; another one where it has none of that name.
+pub(crate) fn integer(table: &Table, name: &str, other: u64) -> u64 {
+    match table.get(name) {
+        Some(value) => match value.as_integer() {
+            Some(number) => number.max(0) as u64,
+            None => other,
+        },
+        None => other,
+    }
+}
+
 /// The first line, from 1, that is no TOML, and why; none where the text is TOML.
 pub(crate) fn syntax_fault(alloc: Global, bytes: &[u8]) -> Option<(u64, Error)> {
     match toml::table_from_slice(alloc, bytes) {

@@ -2,7 +2,7 @@
 
 use crate::amounts::Seconds;
 use crate::first_header::first_header;
-use crate::job_again::file_of;
+use crate::job_again::{file_of, integer};
 use crate::line::{End, list, number};
 use job_report::limits::START_DEFAULT;
 use serde_json::Value;
@@ -58,16 +58,5 @@ fn picture_ticks(rate: u8) -> u64 {
         2 | 5 => TICKS_PER_SECOND / 24,
         3 => TICKS_PER_SECOND / 25,
         _ => TICKS_PER_SECOND * 1_001 / 24_000,
-    }
-}
-
-/// A whole number of a job's text; another one where it has none of that name.
-fn integer(table: &Table, name: &str, other: u64) -> u64 {
-    match table.get(name) {
-        Some(value) => match value.as_integer() {
-            Some(number) => number.max(0) as u64,
-            None => other,
-        },
-        None => other,
     }
 }

@@ -1,8 +1,9 @@
 //! How a command ended, and the members of the line that it printed.
 
+use crate::sent_pictures::SentPictures;
 use serde_json::Value;
 
-/// The words of a command, the exit status that it ended with, and the line that it printed.
+/// The words of a command, the exit status that it ended with, the line that it printed, and the pictures that it sent.
 #[derive(Clone, Copy)]
 pub struct End<'a> {
     /// The words of the command.
@@ -11,6 +12,8 @@ pub struct End<'a> {
     pub code: u8,
     /// What was printed on standard output: a whole line, or a front of one.
     pub line: &'a [u8],
+    /// The pictures of the stream that a run wrote.
+    pub pictures: &'a SentPictures,
 }
 
 impl<'a> End<'a> {

@@ -2,7 +2,9 @@
 
 use crate::amounts::Seconds;
 use crate::buffers::small_buffers;
+use crate::job_again::job_table;
 use crate::line::{End, number};
+use crate::owners::{owner_in_words, owners_of_job, owners_of_table};
 use crate::sources::CODE;
 use serde_json::Value;
 use std::alloc::{AllocError, Global};
@@ -25,9 +27,10 @@ pub(crate) fn unschedulable<R: Files + AllocGlobal>(
     } else {
         help_of_job(rt, end)?
     };
+    let owner = owner(rt, end, number(line, "stream"))?;
     format!(in alloc;
-        "{text}: not even the smallest versions are scheduled: unit {unit} of stream {stream} (counted from 0, over all programs), due at \
-         {due} s, tick {ticks}, misses in slot {slot}; {help}",
+        "{text}: not even the smallest versions are scheduled: unit {unit} of stream {stream} ({owner}counted from 0, over all programs), due \
+         at {due} s, tick {ticks}, misses in slot {slot}; {help}",
         text = end.word(1),
         unit = number(line, "unit"),
         stream = number(line, "stream"),
@@ -37,6 +40,32 @@ pub(crate) fn unschedulable<R: Files + AllocGlobal>(
         ticks = number(line, "due"),
         slot = number(line, "slot")
     )
+}
+
+/// Which program a stream is of, before a semicolon; nothing where that isn't known.
+fn owner<R: Files + AllocGlobal>(rt: &R, end: &End<'_>, stream: u64) -> Result<String, AllocError> {
+    let alloc = rt.alloc();
+    let owner = if end.word(0) == "plan" {
+        owner_in_words(alloc, owners_of_table(rt, end).as_slice(), stream)?
+    } else {
+        owner_in_job(rt, end, stream)?
+    };
+    if owner.is_empty() {
+        return Ok(owner);
+    }
+    format!(in alloc; "{owner}; ")
+}
+
+/// Which program of a job a stream is of.
+fn owner_in_job<R: Files + AllocGlobal>(
+    rt: &R,
+    end: &End<'_>,
+    stream: u64,
+) -> Result<String, AllocError> {
+    match job_table(rt, end.word(1)) {
+        Some(table) => owner_in_words(rt.alloc(), owners_of_job(rt, &table).as_slice(), stream),
+        None => Ok(String::new(rt.alloc())),
+    }
 }
 
 /// What most often causes it in a job, and what to try in which order.

@@ -46,7 +46,7 @@ fn sentence<R: Files + AllocGlobal>(
         7 => Ok(Some(unwritten(rt.alloc(), end, line)?)),
         8 => Ok(Some(refused_certificate(rt.alloc(), end, line)?)),
         9 => Ok(Some(missing(rt.alloc(), end, line)?)),
-        12 => Ok(Some(no_fit(rt.alloc(), end, line)?)),
+        12 => Ok(Some(no_fit(rt, end, line)?)),
         _ => unprinted(rt, end),
     }
 }
@@ -59,7 +59,7 @@ fn done<R: Files + AllocGlobal>(
 ) -> Result<Option<String>, AllocError> {
     match end.word(0) {
         "impossible" => no_room(rt, end, line),
-        "fit" => Ok(Some(fitting(rt.alloc(), end, line)?)),
+        "fit" => Ok(Some(fitting(rt, end, line)?)),
         "run" => after_run(rt, end, line),
         _ => Ok(None),
     }

@@ -1,11 +1,13 @@
 //! What is said of a program that is refused.
 
 use crate::amounts::Seconds;
+use crate::carrier::carrier_of;
 use crate::clock::ticks_before;
-use crate::job_again::{file_of, form_of, job_table};
+use crate::job_again::job_table;
 use crate::kinds::{Help, Place, kind_of};
-use crate::limits::program_limits;
+use crate::limits::limits_in_words;
 use crate::line::{End, number, text};
+use crate::named_program::NamedProgram;
 use job_report::Form;
 use serde_json::Value;
 use std::alloc::{AllocError, Global};
@@ -24,15 +26,14 @@ pub(crate) fn refused_source<R: Files + AllocGlobal>(
 ) -> Result<String, AllocError> {
     if end.word(0) == "probe" {
         let of = format!(in rt.alloc(); "program {} of {}", end.word(2), end.word(1))?;
-        return refused_in(rt, of.as_str(), end.word(1), Form::Ts, line);
+        return refused_in(rt, of.as_str(), NamedProgram::of_probe(end), line);
     }
     match job_table(rt, end.word(1)) {
         Some(table) => {
-            let program = number(line, "program");
-            let form = form_of(&table, program);
-            refused_of_job(rt, end, file_of(&table, program), form, line)
+            let program = NamedProgram::of_job(&table, number(line, "program"));
+            refused_of_job(rt, end, program, line)
         }
-        None => refused_of_job(rt, end, None, Form::Ts, line),
+        None => refused_of_job(rt, end, None, line),
     }
 }
 
@@ -40,35 +41,53 @@ pub(crate) fn refused_source<R: Files + AllocGlobal>(
 fn refused_of_job<R: Files + AllocGlobal>(
     rt: &R,
     end: &End<'_>,
-    file: Option<&str>,
-    form: Form,
+    program: Option<NamedProgram<'_>>,
     line: &Value,
 ) -> Result<String, AllocError> {
-    let file = file.unwrap_or("FILE");
     let of = format!(in rt.alloc();
         "{file}, program {number} (from 0) of {job},",
+        file = named_file(program),
         number = number(line, "program"),
         job = end.word(1)
     )?;
-    refused_in(rt, of.as_str(), file, form, line)
+    refused_in(rt, of.as_str(), program, line)
 }
 
-/// What is wrong with a file, where, and what helps.
+/// The file of a program.
+fn named_file<'a>(program: Option<NamedProgram<'a>>) -> &'a str {
+    match program {
+        Some(program) => program.file,
+        None => "FILE",
+    }
+}
+
+/// The form of that file.
+fn named_form(program: Option<NamedProgram<'_>>) -> Form {
+    match program {
+        Some(program) => program.form,
+        None => Form::Ts,
+    }
+}
+
+/// What is wrong with a program, where, and what helps.
 fn refused_in<R: Files + AllocGlobal>(
     rt: &R,
     of: &str,
-    file: &str,
-    form: Form,
+    program: Option<NamedProgram<'_>>,
     line: &Value,
 ) -> Result<String, AllocError> {
     let alloc = rt.alloc();
     let name = text(line, "kind");
     let at = number(line, "at");
+    let form = named_form(program);
     match kind_of(name, form) {
         None => { format!(in alloc; "{of} is refused: {name} at byte {at} (docs/REFUSALS.md)") }
         Some(kind) => {
-            let place = place(rt, kind.place, file, form, at)?;
-            let help = help(alloc, kind.help, file, form, at)?;
+            let place = place(rt, kind.place, program, at)?;
+            let help = match kind.help {
+                Help::Shorter => limits_in_words(rt, program)?,
+                other => help(alloc, other, named_file(program), form, at)?,
+            };
             format!(in alloc;
                 "{of} is refused: {what} ({name}{place}); {help}",
                 what = kind.what
@@ -77,36 +96,71 @@ fn refused_in<R: Files + AllocGlobal>(
     }
 }
 
-/// Where it is wrong.
+/// Where it is wrong: the byte, and in a transport stream also the packet and how long after the file's first clock it comes. Of a byte
+/// of its video or audio it is the packet that carries it, where there is one such stream alone.
 fn place<R: Files + AllocGlobal>(
     rt: &R,
     place: Place,
-    file: &str,
-    form: Form,
+    program: Option<NamedProgram<'_>>,
     at: u64,
 ) -> Result<String, AllocError> {
     let alloc = rt.alloc();
     match place {
         Place::Nowhere => Ok(String::new(alloc)),
-        Place::Video => format!(in alloc; " at byte {at} of its video"),
-        Place::Audio => format!(in alloc; " at byte {at} of an audio stream"),
+        Place::Video => place_in_stream(rt, "its video", program, true, at),
+        Place::Audio => place_in_stream(rt, "an audio stream", program, false, at),
         Place::Stream => format!(in alloc; " at byte {at} of its video or an audio stream"),
-        Place::File => match form {
+        Place::File => match named_form(program) {
             Form::Ps => format!(in alloc; " at byte {at}"),
-            Form::Ts => packet_place(rt, file, at),
+            Form::Ts => {
+                let packet = packet_in_words(rt, named_file(program), at)?;
+                format!(in alloc; " at byte {at}, {packet}")
+            }
         },
     }
 }
 
-/// The byte of a transport stream, its packet, and how long after the file's first clock it comes.
-fn packet_place<R: Files + AllocGlobal>(rt: &R, file: &str, at: u64) -> Result<String, AllocError> {
+/// Where a byte of the video or of the only audio stream stands: in which PES packet of the stream, and which packet of the file.
+fn place_in_stream<R: Files + AllocGlobal>(
+    rt: &R,
+    name: &str,
+    program: Option<NamedProgram<'_>>,
+    is_video: bool,
+    at: u64,
+) -> Result<String, AllocError> {
+    let alloc = rt.alloc();
+    let plain = format!(in alloc; " at byte {at} of {name}")?;
+    let Some(program) = program else {
+        return Ok(plain);
+    };
+    let Some(stream) = program.only_stream(rt, is_video) else {
+        return Ok(plain);
+    };
+    let Some(carrier) = carrier_of(rt, program.file, stream, at) else {
+        return Ok(plain);
+    };
+    let packet = packet_in_words(rt, program.file, carrier.at)?;
+    format!(in alloc;
+        "{plain}, PES packet {pes} from 0; in the file byte {byte}, {packet}",
+        pes = carrier.pes,
+        byte = carrier.at
+    )
+}
+
+/// The packet of a file that begins at a byte, and how long after the file's first clock it comes, where that is told.
+fn packet_in_words<R: Files + AllocGlobal>(
+    rt: &R,
+    file: &str,
+    at: u64,
+) -> Result<String, AllocError> {
+    let alloc = rt.alloc();
     let packet = at / PACKET_BYTES as u64;
     match ticks_before(rt, file, at) {
-        Some(ticks) => format!(in rt.alloc();
-            " at byte {at}, packet {packet} from 0, {time} s behind the file's first clock",
+        Some(ticks) => format!(in alloc;
+            "packet {packet} from 0, {time} s behind the file's first clock",
             time = Seconds { ticks }
         ),
-        None => format!(in rt.alloc(); " at byte {at}, packet {packet} from 0"),
+        None => format!(in alloc; "packet {packet} from 0"),
     }
 }
 
@@ -138,7 +192,6 @@ fn help(alloc: Global, help: Help, file: &str, form: Form, at: u64) -> Result<St
             "let its times be made anew: `ffmpeg -fflags +genpts -i {file} -map 0 -c copy -f mpegts NEW`, and for audio \
              `-c:a mp2 -af aresample=async=1`"
         ),
-        Help::Shorter => program_limits(alloc),
         _ => String::from_str(alloc, advice(help)),
     }
 }
