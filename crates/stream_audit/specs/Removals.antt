@@ -20,15 +20,15 @@ abbrev pub not_before_zero : ℤ → ℕ
 not_before_zero (pos ticks) = ticks
 not_before_zero (negsuc before) = 0
 
--- ticks from the file's first byte on up to a time that is due so many ticks behind the program's base, where the file's clock begins at `zero`
-abbrev pub removed_at : (zero base : ℕ) → (due : ℤ) → ℕ
-removed_at zero base due = not_before_zero (due +ℤ shift zero base)
+-- ticks from the file's first byte on up to a time that is due so many ticks behind the program's base, where the file's clock begins at `clock_zero`
+abbrev pub removed_at : (clock_zero base : ℕ) → (due : ℤ) → ℕ
+removed_at clock_zero base due = not_before_zero (due +ℤ shift clock_zero base)
 
 -- ---- video
 
 -- the units that are kept, each by its due
-abbrev pub unit_removals : (zero : ℕ) → KeptUnits → List Removal
-unit_removals zero kept = map (λ unit. record { due = removed_at zero kept.base (pos unit.due); bytes = unit.bytes }) kept.units
+abbrev pub unit_removals : (clock_zero : ℕ) → KeptUnits → List Removal
+unit_removals clock_zero kept = map (λ unit. record { due = removed_at clock_zero kept.base (pos unit.due); bytes = unit.bytes }) kept.units
 
 -- the bytes of all units
 abbrev pub unit_bytes : KeptUnits → ℕ
@@ -75,9 +75,9 @@ abbrev pub frame_due : KeptUnits → Frame → ℤ
 frame_due kept frame = pos (first_due kept) +ℤ (frame.time -ℤ pos (TICKS_PER_TIME_UNIT * first_time kept))
 
 -- the frames of an audio stream, each with the PES headers of the packets that begin in it, by its time
-abbrev pub frame_removals : (zero : ℕ) → KeptUnits → List PesUnit → List Frame → List Removal
-frame_removals zero kept packets frames =
+abbrev pub frame_removals : (clock_zero : ℕ) → KeptUnits → List PesUnit → List Frame → List Removal
+frame_removals clock_zero kept packets frames =
     map (λ frame. record {
-      due = removed_at zero kept.base (frame_due kept frame);
+      due = removed_at clock_zero kept.base (frame_due kept frame);
       bytes = frame.len + header_bytes_in frame (placed_from 0 packets);
     }) frames

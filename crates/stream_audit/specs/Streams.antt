@@ -33,8 +33,8 @@ pub record IsVideoOf (places : List Place) (zero : ℕ) (kept : KeptUnits) (pid 
   }
 
 -- that of a file
-abbrev pub IsVideoStream : List ℕ → (zero : ℕ) → KeptUnits → (pid : ℕ) → List PesUnit → AuditedStream → Type 0
-IsVideoStream file zero kept pid packets stream = IsVideoOf (places_on file pid) zero kept pid packets stream
+abbrev pub IsVideoStream : List ℕ → (clock_zero : ℕ) → KeptUnits → (pid : ℕ) → List PesUnit → AuditedStream → Type 0
+IsVideoStream file clock_zero kept pid packets stream = IsVideoOf (places_on file pid) clock_zero kept pid packets stream
 
 -- An audio stream whose packets on its PID are these: its PES packets that are taken, with the whole elementary stream in them, and its frames.
 pub record IsAudioOf (places : List Place) (zero : ℕ) (kept : KeptUnits) (audio : AudioStream) (stream : AuditedStream) : Type 0 where
@@ -48,14 +48,14 @@ pub record IsAudioOf (places : List Place) (zero : ℕ) (kept : KeptUnits) (audi
   }
 
 -- that of a file
-abbrev pub IsAudioStream : List ℕ → (zero : ℕ) → KeptUnits → AudioStream → AuditedStream → Type 0
-IsAudioStream file zero kept audio stream = IsAudioOf (places_on file audio.pid) zero kept audio stream
+abbrev pub IsAudioStream : List ℕ → (clock_zero : ℕ) → KeptUnits → AudioStream → AuditedStream → Type 0
+IsAudioStream file clock_zero kept audio stream = IsAudioOf (places_on file audio.pid) clock_zero kept audio stream
 
 -- audio streams, one for each
-abbrev pub AreAudioStreams : List ℕ → (zero : ℕ) → KeptUnits → List AudioStream → List AuditedStream → Type 0
-AreAudioStreams file zero kept [] [] = Unit {0}
-AreAudioStreams file zero kept (audio ∷ audios) (stream ∷ streams) = IsAudioStream file zero kept audio stream × AreAudioStreams file zero kept audios streams
-AreAudioStreams file zero kept audios streams = ⊥
+abbrev pub AreAudioStreams : List ℕ → (clock_zero : ℕ) → KeptUnits → List AudioStream → List AuditedStream → Type 0
+AreAudioStreams file clock_zero kept [] [] = Unit {0}
+AreAudioStreams file clock_zero kept (audio ∷ audios) (stream ∷ streams) = IsAudioStream file clock_zero kept audio stream × AreAudioStreams file clock_zero kept audios streams
+AreAudioStreams file clock_zero kept audios streams = ⊥
 
 -- the packet of a number, on whichever PID it is
 abbrev pub place_of : List ℕ → ℕ → Place
