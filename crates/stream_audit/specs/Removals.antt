@@ -1,5 +1,5 @@
 -- When a decoder removes the units and frames of a program, by the clock of the file (ISO/IEC 13818-1, 2.4.2.3 and 2.4.3.7).
-use Rattle.std.specs.Prelude.{◌≡◌, ℕ, ◌+◌, ◌*◌, ◌/◌, ◌%◌, nat_lt, nat_le, Bool, ◌&&◌, filter, List, [], ◌∷◌, map, take, sum_by, Option, Some, None, unwrap_or, ℤ, pos, negsuc, ◌+ℤ◌, ◌-ℤ◌}
+use Rattle.std.specs.Prelude.{◌≡◌, ℕ, ◌+◌, ◌*◌, ◌/◌, ◌%◌, nat_lt, nat_le, Bool, ◌&&◌, filter, List, [], ◌∷◌, map, take, sum_by, Option, Some, None, unwrap_or, All, ◌^◌, ℤ, pos, negsuc, ◌+ℤ◌, ◌-ℤ◌, ◌≤ℤ◌}
 use Rattle.stream_constants.specs.declared.clock.TheConstants.{TICKS_PER_TIME_UNIT}
 use Rattle.pcr_writer.specs.declared.pcr.TheConstants.{PCR_MODULUS}
 use Rattle.audio_frames.specs.declared.frame.Frame.{Frame}
@@ -73,6 +73,10 @@ header_bytes_in frame packets = sum_by (λ packet. packet.header) (filter (begin
 -- a frame's time as a due: that of the first unit, and the ticks from the program's first video time on
 abbrev pub frame_due : KeptUnits → Frame → ℤ
 frame_due kept frame = pos (first_due kept) +ℤ (frame.time -ℤ pos (TICKS_PER_TIME_UNIT * first_time kept))
+
+-- no frame is due later than 2^52 ticks, which are five years
+abbrev pub AreInTime : KeptUnits → List Frame → Type 0
+AreInTime kept frames = All (λ frame. frame_due kept frame ≤ℤ pos (2 ^ 52)) frames
 
 -- the frames of an audio stream, each with the PES headers of the packets that begin in it, by its time
 abbrev pub frame_removals : (clock_zero : ℕ) → KeptUnits → List PesUnit → List Frame → List Removal
