@@ -1,10 +1,10 @@
 -- What is read of an audio stream serves the judge.
-use Rattle.std.proofs.Common.{◌≡◌, ℕ, ◌+◌, ◌*◌, ◌^◌, ◌<◌, ◌≤◌, Bool, true, false, cond, List, [], ◌∷◌, ◌++◌, length, map, take, drop, get_or, replicate, All, ℤ, pos, neg_ℤ, ◌+ℤ◌, ◌-ℤ◌, ◌≤ℤ◌, refl, sym, ap, ◌∙◌, subst, arith}
+use Rattle.std.proofs.Common.{◌≡◌, ◌⊎◌, inl, inr, ℕ, ◌+◌, ◌*◌, ◌^◌, ◌<◌, ◌≤◌, Bool, true, false, cond, List, [], ◌∷◌, ◌++◌, length, map, take, drop, get_or, replicate, All, ℤ, pos, neg_ℤ, ◌+ℤ◌, ◌-ℤ◌, ◌≤ℤ◌, refl, sym, ap, ◌∙◌, subst, arith}
 use Rattle.std.specs.List.{sum_by}
 use Rattle.std.specs.List.Sorted.{IsNonDecreasing, IsStrictlyIncreasing}
 use Rattle.std.proofs.lemmas.Int.{ints}
-use Rattle.std.proofs.lemmas.List.{length-append, length-drop, length-map}
-use Rattle.std.proofs.lemmas.List.Elements.{All-head, All-tail}
+use Rattle.std.proofs.lemmas.List.{length-append, length-drop, length-map, take_all, take_more}
+use Rattle.std.proofs.lemmas.List.Elements.{All-head, All-push, All-tail}
 use Rattle.std.proofs.lemmas.List.Sums.{sum_by-cons}
 use Rattle.audio_frames.specs.declared.frame.Frame.{Frame}
 use Rattle.pes_units.specs.PesHeader.{header_length}
@@ -25,7 +25,10 @@ use Rattle.stream_audit.specs.declared.kept_units.KeptUnits.{KeptUnits}
 use Rattle.stream_audit.specs.declared.taken_pes.PlacedPes.{PlacedPes}
 use Rattle.stream_audit.specs.Findings.{CanBeJudged}
 use Rattle.stream_audit.specs.PesBytes.{arrivals_of, bytes_before, elementary_bytes, parts_of_packets, payload_of, placed_at, placed_from, taken}
-use Rattle.stream_audit.specs.Removals.{HasFrames, first_due, first_time, frame_due, frame_removals, header_bytes_in, removed_at}
+use Rattle.stream_audit.specs.declared.audit_stop.AuditStop.{AuditStop}
+use Rattle.stream_audit.specs.declared.audit_stop.AuditStop.TheVariants.{OutOfMemory, ProgramLimit}
+use Rattle.stream_audit.specs.Refusals.{IsAudioSound, IsAudioStopped, IsAudioUnread}
+use Rattle.stream_audit.specs.Removals.{AreInTime, HasFrames, first_due, first_time, frame_due, frame_removals, header_bytes_in, removed_at}
 use Rattle.stream_audit.specs.Streams.{IsAudioOf}
 use Rattle.stream_audit.specs.Private.AudioRead.{IsAudioRead}
 use Rattle.stream_audit.specs.Private.FrameRemovals.{AreChained, Climb, FallsWithin, frame_removal}
@@ -97,28 +100,70 @@ module _ (first : ℕ) (stream : AudioStream) (read : ReadAudio) (is : IsAudioRe
 -- ---- times
 
 fall_within : (time offset : ℤ) (due shown : ℕ) → offset ≡ pos due -ℤ pos shown → shown ≤ 2576980377600 → neg_ℤ (pos 9000000000000000000) ≤ℤ time →
-    (pos due +ℤ (time -ℤ pos shown)) ≤ℤ pos 4503599627370496 → FallsWithin (time +ℤ offset)
-fall_within time offset due shown is few least most = record { least = low time offset due shown is few least; most = high time offset due shown is most }
+    (time +ℤ offset) ≤ℤ pos 4503599627370496 → FallsWithin (time +ℤ offset)
+fall_within time offset due shown is few least most = record { least = low time offset due shown is few least; most = most }
   where
     low : (time offset : ℤ) (due shown : ℕ) → offset ≡ pos due -ℤ pos shown → shown ≤ 2576980377600 → neg_ℤ (pos 9000000000000000000) ≤ℤ time →
         neg_ℤ (pos 9223370937343148032) ≤ℤ (time +ℤ offset)
     low time offset due shown is few least = omega (arith, ints, is, few, least)
 
-    high : (time offset : ℤ) (due shown : ℕ) → offset ≡ pos due -ℤ pos shown → (pos due +ℤ (time -ℤ pos shown)) ≤ℤ pos 4503599627370496 → (time +ℤ offset) ≤ℤ pos 4503599627370496
-    high time offset due shown is most = omega (arith, ints, is, most)
-
 pub frames_fall : (first : ℕ) (kept : KeptUnits) (stream : AudioStream) (read : ReadAudio) (lent : List Frame) (offset : ℤ) → IsAudioRead first stream read → first ≡ first_time kept →
-    first < 2 ^ 33 → lent ≡ read.frames → offset ≡ pos (first_due kept) -ℤ pos (300 * first_time kept) →
-    ((frames : List Frame) → HasFrames (first_time kept) (taken false stream.units) frames → All (λ frame. frame_due kept frame ≤ℤ pos (2 ^ 52)) frames) →
+    first < 2 ^ 33 → lent ≡ read.frames → offset ≡ pos (first_due kept) -ℤ pos (300 * first_time kept) → All (λ frame. (frame.time +ℤ offset) ≤ℤ pos (2 ^ 52)) lent →
     All (λ frame. FallsWithin (frame.time +ℤ offset)) lent
 frames_fall first kept stream read lent offset is first_is few same offset_is fit =
-    let dues = fit read.frames (subst (λ (n : ℕ). HasFrames n (taken false stream.units) read.frames) first_is is.framed) in
+    let dues = subst (All (λ (frame : Frame). (frame.time +ℤ offset) ≤ℤ pos (2 ^ 52))) same fit in
     subst (All (λ (frame : Frame). FallsWithin (frame.time +ℤ offset))) (sym same) (λ k d less.
     fall_within (get_or read.frames k d).time offset (first_due kept) (300 * first_time kept) offset_is (omega (arith, few, first_is)) (is.ticks k d less).least (dues k d less))
 
 -- a due by the clock's offset is the due by the first unit
 due_same : (time offset : ℤ) (due shown : ℕ) → offset ≡ pos due -ℤ pos shown → (time +ℤ offset) ≡ pos due +ℤ (time -ℤ pos shown)
 due_same time offset due shown is = omega (arith, ints, is)
+
+-- frames one by one
+abbrev IsInTime : ℤ → Frame → Type 0
+IsInTime offset frame = (frame.time +ℤ offset) ≤ℤ pos (2 ^ 52)
+
+module _ (offset : ℤ) (frames : List Frame) (i : ℕ) where
+  pub one_in_time : (d : Frame) → i < length frames → ((get_or frames i d).time +ℤ offset) ≤ℤ pos (2 ^ 52) →
+      All (λ frame. (frame.time +ℤ offset) ≤ℤ pos (2 ^ 52)) (take i frames) → All (λ frame. (frame.time +ℤ offset) ≤ℤ pos (2 ^ 52)) (take (i + 1) frames)
+  one_in_time d within fits all =
+      subst (All (IsInTime offset)) (sym (take_more frames i d within)) (All-push (IsInTime offset) (take i frames) (get_or frames i d) all fits)
+
+  pub all_in_time : length frames ≤ i → All (λ frame. (frame.time +ℤ offset) ≤ℤ pos (2 ^ 52)) (take i frames) → All (λ frame. (frame.time +ℤ offset) ≤ℤ pos (2 ^ 52)) frames
+  all_in_time end all = subst (All (IsInTime offset)) (take_all i frames end) all
+
+-- frames in time by the clock's offset are in time by the first unit
+module _ (kept : KeptUnits) (offset : ℤ) (frames lent : List Frame) (same : lent ≡ frames) (offset_is : offset ≡ pos (first_due kept) -ℤ pos (300 * first_time kept)) where
+  one_due : (frame : Frame) → (frame.time +ℤ offset) ≡ frame_due kept frame
+  one_due frame = due_same frame.time offset (first_due kept) (300 * first_time kept) offset_is
+
+  pub in_time : All (λ frame. (frame.time +ℤ offset) ≤ℤ pos (2 ^ 52)) lent → AreInTime kept frames
+  in_time fit =
+      let dues = subst (All (λ (frame : Frame). (frame.time +ℤ offset) ≤ℤ pos (2 ^ 52))) same fit in
+      λ k d less. subst (λ (due : ℤ). due ≤ℤ pos (2 ^ 52)) (one_due (get_or frames k d)) (dues k d less)
+
+  pub not_in_time : (All (λ frame. (frame.time +ℤ offset) ≤ℤ pos (2 ^ 52)) lent → ⊥) → AreInTime kept frames → ⊥
+  not_in_time late fit =
+      late (subst (All (λ (frame : Frame). (frame.time +ℤ offset) ≤ℤ pos (2 ^ 52))) (sym same)
+      (λ k d less. subst (λ (due : ℤ). due ≤ℤ pos (2 ^ 52)) (sym (one_due (get_or frames k d))) (fit k d less)))
+
+-- what refuses to read it
+pub audio_unread : (first : ℕ) (kept : KeptUnits) (stream : AudioStream) (stop : AuditStop) → first ≡ first_time kept → (stop ≡ OutOfMemory) ⊎ IsAudioUnread first stream stop →
+    (stop ≡ OutOfMemory) ⊎ IsAudioStopped kept stream stop
+audio_unread first kept stream stop first_is (inl memory) = inl memory
+audio_unread first kept stream stop first_is (inr unread) = inr (IsAudioStopped.unread (subst (λ (n : ℕ). IsAudioUnread n stream stop) first_is unread))
+
+-- what is read of a stream whose frames are in time, or of one whose frames aren't
+module _ (first : ℕ) (kept : KeptUnits) (stream : AudioStream) (read : ReadAudio) (lent : List Frame) (offset : ℤ) (is : IsAudioRead first stream read) (first_is : first ≡ first_time kept)
+    (same : lent ≡ read.frames) (offset_is : offset ≡ pos (first_due kept) -ℤ pos (300 * first_time kept)) where
+  framed : HasFrames (first_time kept) (taken false stream.units) read.frames
+  framed = subst (λ (n : ℕ). HasFrames n (taken false stream.units) read.frames) first_is is.framed
+
+  pub audio_sound : All (λ frame. (frame.time +ℤ offset) ≤ℤ pos (2 ^ 52)) lent → IsAudioSound kept stream
+  audio_sound fit = record { sound = is.sound; frames = read.frames; framed = framed; in_time = in_time kept offset read.frames lent same offset_is fit }
+
+  pub audio_late : (All (λ frame. (frame.time +ℤ offset) ≤ℤ pos (2 ^ 52)) lent → ⊥) → (ProgramLimit ≡ OutOfMemory) ⊎ IsAudioStopped kept stream ProgramLimit
+  audio_late late = inr (IsAudioStopped.late read.frames is.sound framed (not_in_time kept offset read.frames lent same offset_is late) refl)
 
 map_same : (f g : Frame → Removal) (frames : List Frame) → ((frame : Frame) → f frame ≡ g frame) → map f frames ≡ map g frames
 map_same f g [] same = refl

@@ -55,7 +55,7 @@ use Rattle.stream_audit.specs.declared.audit_stop.AuditStop.{AuditStop}
 use Rattle.stream_audit.specs.declared.taken_pes.PlacedPes.{PlacedPes}
 use Rattle.stream_audit.specs.declared.taken_pes.TakenPes.{TakenPes}
 use Rattle.stream_audit.specs.PesBytes.{elementary_bytes, payload_of, placed_from, taken}
-use Rattle.stream_audit.specs.Refusals.{AreSound, IsAudioStopped, of_audio}
+use Rattle.stream_audit.specs.Refusals.{AreSound, IsAudioUnread, of_audio}
 use Rattle.stream_audit.specs.Removals.{BeginAt}
 use Rattle.stream_audit.specs.Private.AudioRead.{IsAudioRead}
 use Rattle.stream_audit.specs.Private.PesStarts.{IsNear, AreNear}
@@ -211,12 +211,12 @@ taken_starts first packets held placed payload starts given are placed_is payloa
 
 pub frames_refused : (first : ℕ) (stream : AudioStream) (packets : List PesUnit) (held : TakenPes) (placed : List PlacedPes) (payload : List ℕ) (starts given : List PesStart)
     (found : AudioFault) (stop : AuditStop) → packets ≡ stream.units → AreTaken false packets held → placed ≡ held.packets.items → payload ≡ held.payload.items →
-    given ≡ starts → BeginAt (pos first) placed starts → IsAudioRefused payload given found → stop ≡ of_audio stream.pid found → IsAudioStopped first stream stop
+    given ≡ starts → BeginAt (pos first) placed starts → IsAudioRefused payload given found → stop ≡ of_audio stream.pid found → IsAudioUnread first stream stop
 frames_refused first stream packets held placed payload starts given found stop packets_are are placed_is payload_is same starts_are refused stop_is =
     let taken_is : taken false packets ≡ taken false stream.units = ap (taken false) packets_are in
     let placed_all : placed ≡ placed_from 0 (taken false stream.units) = placed_is ∙ are.holds.placed ∙ ap (placed_from 0) taken_is in
     let payload_all : payload ≡ elementary_bytes (taken false stream.units) = payload_is ∙ are.holds.payload ∙ ap elementary_bytes taken_is in
-    IsAudioStopped.bad_frames starts found (subst (AreSound false) packets_are are.sound) (subst (λ (xs : List PlacedPes). BeginAt (pos first) xs starts) placed_all starts_are)
+    IsAudioUnread.bad_frames starts found (subst (AreSound false) packets_are are.sound) (subst (λ (xs : List PlacedPes). BeginAt (pos first) xs starts) placed_all starts_are)
     (subst (λ (xs : List ℕ). IsAudioRefused xs starts found) payload_all (subst (λ (xs : List PesStart). IsAudioRefused payload xs found) same refused)) stop_is
 
 pub stream_read : (first : ℕ) (stream : AudioStream) (packets : List PesUnit) (held : TakenPes) (placed : List PlacedPes) (payload : List ℕ) (starts given : List PesStart)

@@ -16,3 +16,5 @@ pub mod FrameLaws
 pub mod AudioLaws
 pub mod AudioFacts
 pub mod VideoFacts
+pub mod CarriedSizes
+pub mod AuditLaws

@@ -43,16 +43,16 @@ abbrev pub clock_of : (slot : ℕ) → List Place → Option ℕ
 clock_of slot places = option_map (λ first. ticks_from (arrival_ticks slot first.packet BASE_END_BYTE) first.pcr) (slice_get (pcrs_of places) 0)
 
 -- a reference is off by more than 500 ns, which are 13.5 ticks (2.4.2.2)
-abbrev pub is_off : (slot origin : ℕ) → PlacedPcr → Bool
-is_off slot origin reference = nat_lt PCR_TOLERANCE_TICKS (apart (pcr_at origin reference.packet slot) reference.pcr)
+abbrev pub is_off : (slot clock_zero : ℕ) → PlacedPcr → Bool
+is_off slot clock_zero reference = nat_lt PCR_TOLERANCE_TICKS (apart (pcr_at clock_zero reference.packet slot) reference.pcr)
 
 -- the first one that is off, from the file's first reference on, which never is; the byte of the file where its packet begins
-abbrev pub first_off : (slot origin : ℕ) → List Place → Option ℕ
-first_off slot origin places = option_map (λ reference. PACKET_BYTES * reference.packet) (find (is_off slot origin) (pcrs_of places))
+abbrev pub first_off : (slot clock_zero : ℕ) → List Place → Option ℕ
+first_off slot clock_zero places = option_map (λ reference. PACKET_BYTES * reference.packet) (find (is_off slot clock_zero) (pcrs_of places))
 
 -- the same by the clock of the first reference, and none where there is no reference
 abbrev pub off_of : (slot : ℕ) → List Place → Option ℕ
-off_of slot places = option_and_then (λ origin. first_off slot origin places) (clock_of slot places)
+off_of slot places = option_and_then (λ zero. first_off slot zero places) (clock_of slot places)
 
 -- A clock knows these packets of its PID.
 pub record HasSeen (slot : ℕ) (places : List Place) (clock : FileClock) : Type 0 where

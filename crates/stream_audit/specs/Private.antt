@@ -6,3 +6,4 @@ pub mod TakenPes
 pub mod PesStarts
 pub mod AudioRead
 pub mod FrameRemovals
+pub mod Audit

@@ -1,25 +1,39 @@
 -- Why a program of a file isn't audited: the first of these in the order of reading (the order is this project's).
-use Rattle.std.specs.Prelude.{◌≡◌, ◌≢◌, ◌⊎◌, ℕ, Bool, List, [], ◌∷◌, ◌++◌, All, Option, Some, None, true, false, pos}
+use Rattle.std.specs.Prelude.{◌≡◌, ◌≢◌, ◌⊎◌, ◌<◌, ◌≤◌, ℕ, Bool, List, [], ◌∷◌, ◌++◌, All, Option, Some, None, true, false, length, pos}
 use Rattle.audio_frames.specs.declared.audio_fault.AudioFault.{AudioFault}
-use Rattle.audio_frames.specs.declared.audio_fault.AudioFault.TheVariants.{NotLayer2, AudioSync, NoAudioTime, TimeOrder, OutOfMemory}
+use Rattle.audio_frames.specs.declared.audio_fault.AudioFault.TheVariants.{NotLayer2, AudioSync, NoAudioTime, TimeOrder}
+use Rattle.audio_frames.specs.declared.audio_fault.AudioFault.TheVariants as audio_faults
+use Rattle.audio_frames.specs.declared.frame.Frame.{Frame}
 use Rattle.audio_frames.specs.declared.pes_start.PesStart.{PesStart}
 use Rattle.audio_frames.specs.Times.{IsAudioRefused}
 use Rattle.es_units.specs.Units.{first_sequence}
 use Rattle.pes_units.specs.declared.pes_fault.PesFault.{PesFault}
 use Rattle.pes_units.specs.PesPackets.{last_refusal, packet_refusal}
 use Rattle.ts_demux.specs.declared.demuxed.AudioStream.{AudioStream}
+use Rattle.ts_demux.specs.declared.demuxed.Demuxed.{Demuxed}
 use Rattle.ts_demux.specs.declared.demuxed.PesUnit.{PesUnit}
 use Rattle.ts_demux.specs.declared.demux_fault.DemuxFault.{DemuxFault}
-use Rattle.ts_demux.specs.Demux.{AreStreamsSound}
+use Rattle.ts_demux.specs.declared.demux_fault.DemuxFault.TheVariants as demux_faults
+use Rattle.ts_demux.specs.Demux.{AreStreamsSound, IsDemuxRefused, IsDemuxed}
 use Rattle.ts_demux.specs.PidPlaces.{IsPlacesFault, places_on}
-use Rattle.ts_demux.specs.Tables.{pat_pid}
+use Rattle.ts_demux.specs.Tables.{IsMapPid, pat_pid}
 use Rattle.stream_audit.specs.PesBytes.{elementary_bytes, placed_from, taken}
-use Rattle.stream_audit.specs.Removals.{BeginAt}
+use Rattle.stream_audit.specs.Removals.{AreInTime, BeginAt, HasFrames, first_time}
 use Rattle.stream_audit.specs.declared.audit_stop.AuditStop.{AuditStop}
+use Rattle.stream_audit.specs.declared.audited_program.TheConstants.{AUDITED_BYTES_MOST}
+use Rattle.stream_audit.specs.declared.file_clock.FoundClock.{FoundClock}
 use Rattle.stream_audit.specs.declared.file_clock.TheConstants.{NULL_PID}
-use Rattle.stream_audit.specs.Clock.{clock_of}
-use Rattle.stream_audit.specs.declared.audit_stop.AuditStop.TheVariants.{Audio, Demux, NoPcr, NoSequence, Pes}
+use Rattle.stream_audit.specs.declared.kept_units.KeptUnits.{KeptUnits}
+use Rattle.stream_audit.specs.Clock.{IsClockOf, clock_of}
+use Rattle.stream_audit.specs.declared.audit_stop.AuditStop.TheVariants.{Audio, Demux, NoPcr, NoSequence, Pes, ProgramLimit}
 use Rattle.stream_audit.specs.declared.audit_stop.AuditStop.TheVariants as stops
+
+-- ---- packets
+
+-- a fault of packets or sections, or memory that was wanted for them
+abbrev pub of_demux : DemuxFault → AuditStop
+of_demux demux_faults.OutOfMemory = stops.OutOfMemory
+of_demux fault = Demux fault
 
 -- The first packet that is refused for PID 0, or where none is the first one that is refused for the PID of the map; or memory was wanted.
 abbrev pub IsSystemFault : List ℕ → (map_pid : ℕ) → DemuxFault → Type 0
@@ -31,7 +45,7 @@ IsSystemFault file map_pid fault = IsPlacesFault file pat_pid fault ⊎ (AreStre
 -- for it, or memory that was wanted; else it has no reference.
 pub data IsClockStopped (file : List ℕ) (slot pid : ℕ) (stop : AuditStop) : Type 0 where
   no_pid : pid ≡ NULL_PID → stop ≡ NoPcr → IsClockStopped file slot pid stop
-  bad_packet : (fault : DemuxFault) → pid ≢ NULL_PID → IsPlacesFault file pid fault → stop ≡ Demux fault → IsClockStopped file slot pid stop
+  bad_packet : (fault : DemuxFault) → pid ≢ NULL_PID → IsPlacesFault file pid fault → stop ≡ of_demux fault → IsClockStopped file slot pid stop
   no_reference : pid ≢ NULL_PID → AreStreamsSound file (pid ∷ []) → clock_of slot (places_on file pid) ≡ None → stop ≡ NoPcr → IsClockStopped file slot pid stop
 
 -- ---- PES packets
@@ -59,6 +73,12 @@ pub record IsPesRefused (video : Bool) (packets : List PesUnit) (stop : AuditSto
 
 -- ---- video
 
+-- Nothing refuses a video: its PES packets have no fault, and a sequence header stands in those that are taken.
+pub record IsVideoSound (packets : List PesUnit) : Type 0 where
+  pub sound : AreSound true packets
+  pub from : ℕ
+  pub sequence : first_sequence (elementary_bytes (taken true packets)) ≡ Some from
+
 -- What refuses a video: first its PES packets, then that it has no sequence header.
 pub data IsVideoStopped (packets : List PesUnit) (stop : AuditStop) : Type 0 where
   bad_packet : IsPesRefused true packets stop → IsVideoStopped packets stop
@@ -72,10 +92,66 @@ of_audio pid (NotLayer2 at) = Audio pid (NotLayer2 at)
 of_audio pid (AudioSync at) = Audio pid (AudioSync at)
 of_audio pid (NoAudioTime at) = Audio pid (NoAudioTime at)
 of_audio pid (TimeOrder at) = Audio pid (TimeOrder at)
-of_audio pid OutOfMemory = stops.OutOfMemory
+of_audio pid audio_faults.OutOfMemory = stops.OutOfMemory
 
--- What refuses an audio stream of a program whose video begins at a time, in units of 1/90,000 s: first its PES packets, and then its frames.
-pub data IsAudioStopped (first : ℕ) (stream : AudioStream) (stop : AuditStop) : Type 0 where
-  bad_packet : IsPesRefused false stream.units stop → IsAudioStopped first stream stop
+-- Why an audio stream of a program whose video begins at a time, in units of 1/90,000 s, has no frames: first its PES packets, and then its frames.
+pub data IsAudioUnread (first : ℕ) (stream : AudioStream) (stop : AuditStop) : Type 0 where
+  bad_packet : IsPesRefused false stream.units stop → IsAudioUnread first stream stop
   bad_frames : (starts : List PesStart) (found : AudioFault) → AreSound false stream.units → BeginAt (pos first) (placed_from 0 (taken false stream.units)) starts
-      → IsAudioRefused (elementary_bytes (taken false stream.units)) starts found → stop ≡ of_audio stream.pid found → IsAudioStopped first stream stop
+      → IsAudioRefused (elementary_bytes (taken false stream.units)) starts found → stop ≡ of_audio stream.pid found → IsAudioUnread first stream stop
+
+-- Nothing refuses an audio stream of a program with these units: its PES packets have no fault, those that are taken are these frames, and none is due later than
+-- 2^52 ticks.
+pub record IsAudioSound (kept : KeptUnits) (stream : AudioStream) : Type 0 where
+  pub sound : AreSound false stream.units
+  pub frames : List Frame
+  pub framed : HasFrames (first_time kept) (taken false stream.units) frames
+  pub in_time : AreInTime kept frames
+
+-- What refuses an audio stream of a program with these units: that it has no frames, else a frame that is due later.
+pub data IsAudioStopped (kept : KeptUnits) (stream : AudioStream) (stop : AuditStop) : Type 0 where
+  unread : IsAudioUnread (first_time kept) stream stop → IsAudioStopped kept stream stop
+  late : (frames : List Frame) → AreSound false stream.units → HasFrames (first_time kept) (taken false stream.units) frames → (AreInTime kept frames → ⊥)
+      → stop ≡ ProgramLimit → IsAudioStopped kept stream stop
+
+-- The first one of some audio streams that is refused; those before it aren't.
+pub record IsFirstAudioStopped (kept : KeptUnits) (audios : List AudioStream) (stop : AuditStop) : Type 0 where
+  pub before : List AudioStream
+  pub audio : AudioStream
+  pub more : List AudioStream
+  pub split : audios ≡ before ++ audio ∷ more
+  pub sound : All (IsAudioSound kept) before
+  pub refused : IsAudioStopped kept audio stop
+
+-- ---- a program of a file
+
+-- A program is taken out of a file, its map is on this PID, and no packet is refused for PID 0 or for that PID.
+pub record AreTablesSound (file : List ℕ) (program : ℕ) (demuxed : Demuxed) (map_pid : ℕ) : Type 0 where
+  pub file_fits : length file ≤ AUDITED_BYTES_MOST
+  pub taken_out : IsDemuxed file program [] demuxed
+  pub map_is : IsMapPid file program map_pid
+  pub pat_sound : AreStreamsSound file (pat_pid ∷ [])
+  pub map_sound : AreStreamsSound file (map_pid ∷ [])
+
+-- What is read before the streams of a program: the program and the PID of its map, and the clock by the references on the PID that the map says.
+pub record IsProgramRead (file : List ℕ) (program slot : ℕ) (demuxed : Demuxed) (map_pid : ℕ) (clock : FoundClock) : Type 0 where
+  pub tables : AreTablesSound file program demuxed map_pid
+  pub clock_is : IsClockOf file slot demuxed.map.pcr_pid clock
+
+-- What refuses that: first a long file, then what refuses to take the program out, then the packets of PID 0 and of the map's PID, and then the clock.
+pub data IsProgramStopped (file : List ℕ) (program slot : ℕ) (stop : AuditStop) : Type 0 where
+  long_file : AUDITED_BYTES_MOST < length file → stop ≡ ProgramLimit → IsProgramStopped file program slot stop
+  no_program : (fault : DemuxFault) → length file ≤ AUDITED_BYTES_MOST → IsDemuxRefused file program [] fault → stop ≡ of_demux fault → IsProgramStopped file program slot stop
+  bad_tables : (demuxed : Demuxed) (map_pid : ℕ) (fault : DemuxFault) → length file ≤ AUDITED_BYTES_MOST → IsDemuxed file program [] demuxed
+      → IsMapPid file program map_pid → IsSystemFault file map_pid fault → stop ≡ of_demux fault → IsProgramStopped file program slot stop
+  no_clock : (demuxed : Demuxed) (map_pid : ℕ) → AreTablesSound file program demuxed map_pid → IsClockStopped file slot demuxed.map.pcr_pid stop
+      → IsProgramStopped file program slot stop
+
+-- What refuses a program that is to be audited: what is read before its streams, then its video, and then the first audio stream that is refused.
+pub data IsAuditStopped (file : List ℕ) (program slot : ℕ) (kept : KeptUnits) (stop : AuditStop) : Type 0 where
+  bad_program : IsProgramStopped file program slot stop → IsAuditStopped file program slot kept stop
+  bad_video : (demuxed : Demuxed) (map_pid : ℕ) (clock : FoundClock) → IsProgramRead file program slot demuxed map_pid clock
+      → IsVideoStopped demuxed.video stop → IsAuditStopped file program slot kept stop
+  bad_audio : (demuxed : Demuxed) (map_pid : ℕ) (clock : FoundClock) → IsProgramRead file program slot demuxed map_pid clock
+      → IsVideoSound demuxed.video → IsFirstAudioStopped kept demuxed.audios stop → IsAuditStopped file program slot kept stop
+  memory : stop ≡ stops.OutOfMemory → IsAuditStopped file program slot kept stop

@@ -1,5 +1,5 @@
 -- When a decoder removes the units and frames of a program, by the clock of the file (ISO/IEC 13818-1, 2.4.2.3 and 2.4.3.7).
-use Rattle.std.specs.Prelude.{◌≡◌, ℕ, ◌+◌, ◌*◌, ◌/◌, ◌%◌, nat_lt, nat_le, Bool, ◌&&◌, filter, List, [], ◌∷◌, map, take, sum_by, Option, Some, None, unwrap_or, ℤ, pos, negsuc, ◌+ℤ◌, ◌-ℤ◌}
+use Rattle.std.specs.Prelude.{◌≡◌, ℕ, ◌+◌, ◌*◌, ◌/◌, ◌%◌, nat_lt, nat_le, Bool, ◌&&◌, filter, List, [], ◌∷◌, map, take, sum_by, Option, Some, None, unwrap_or, All, ◌^◌, ℤ, pos, negsuc, ◌+ℤ◌, ◌-ℤ◌, ◌≤ℤ◌}
 use Rattle.stream_constants.specs.declared.clock.TheConstants.{TICKS_PER_TIME_UNIT}
 use Rattle.pcr_writer.specs.declared.pcr.TheConstants.{PCR_MODULUS}
 use Rattle.audio_frames.specs.declared.frame.Frame.{Frame}
@@ -20,15 +20,15 @@ abbrev pub not_before_zero : ℤ → ℕ
 not_before_zero (pos ticks) = ticks
 not_before_zero (negsuc before) = 0
 
--- ticks from the file's first byte on up to a time that is due so many ticks behind the program's base, where the file's clock begins at `origin`
-abbrev pub removed_at : (origin base : ℕ) → (due : ℤ) → ℕ
-removed_at origin base due = not_before_zero (due +ℤ shift origin base)
+-- ticks from the file's first byte on up to a time that is due so many ticks behind the program's base, where the file's clock begins at `clock_zero`
+abbrev pub removed_at : (clock_zero base : ℕ) → (due : ℤ) → ℕ
+removed_at clock_zero base due = not_before_zero (due +ℤ shift clock_zero base)
 
 -- ---- video
 
 -- the units that are kept, each by its due
-abbrev pub unit_removals : (origin : ℕ) → KeptUnits → List Removal
-unit_removals origin kept = map (λ unit. record { due = removed_at origin kept.base (pos unit.due); bytes = unit.bytes }) kept.units
+abbrev pub unit_removals : (clock_zero : ℕ) → KeptUnits → List Removal
+unit_removals clock_zero kept = map (λ unit. record { due = removed_at clock_zero kept.base (pos unit.due); bytes = unit.bytes }) kept.units
 
 -- the bytes of all units
 abbrev pub unit_bytes : KeptUnits → ℕ
@@ -74,10 +74,14 @@ header_bytes_in frame packets = sum_by (λ packet. packet.header) (filter (begin
 abbrev pub frame_due : KeptUnits → Frame → ℤ
 frame_due kept frame = pos (first_due kept) +ℤ (frame.time -ℤ pos (TICKS_PER_TIME_UNIT * first_time kept))
 
+-- no frame is due later than 2^52 ticks, which are five years
+abbrev pub AreInTime : KeptUnits → List Frame → Type 0
+AreInTime kept frames = All (λ frame. frame_due kept frame ≤ℤ pos (2 ^ 52)) frames
+
 -- the frames of an audio stream, each with the PES headers of the packets that begin in it, by its time
-abbrev pub frame_removals : (origin : ℕ) → KeptUnits → List PesUnit → List Frame → List Removal
-frame_removals origin kept packets frames =
+abbrev pub frame_removals : (clock_zero : ℕ) → KeptUnits → List PesUnit → List Frame → List Removal
+frame_removals clock_zero kept packets frames =
     map (λ frame. record {
-      due = removed_at origin kept.base (frame_due kept frame);
+      due = removed_at clock_zero kept.base (frame_due kept frame);
       bytes = frame.len + header_bytes_in frame (placed_from 0 packets);
     }) frames

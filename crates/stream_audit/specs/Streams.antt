@@ -22,40 +22,40 @@ abbrev pub arrivals_by : List Place → KeptSpan → List PesUnit → List Arriv
 arrivals_by places span packets = arrivals_of places (parts_carried span places packets)
 
 -- The video, whose packets on its PID are these: its PES packets that are taken, of which the units are kept from the first sequence header on.
-pub record IsVideoOf (places : List Place) (origin : ℕ) (kept : KeptUnits) (pid : ℕ) (packets : List PesUnit) (stream : AuditedStream) : Type 0 where
+pub record IsVideoOf (places : List Place) (zero : ℕ) (kept : KeptUnits) (pid : ℕ) (packets : List PesUnit) (stream : AuditedStream) : Type 0 where
   pub from : ℕ
   pub sequence : first_sequence (elementary_bytes (taken true packets)) ≡ Some from
   pub stream_is : stream ≡ record {
     pid = pid;
     kind = Video kept.vbv;
     arrivals = arrivals_by places (record { from = from; to = from + unit_bytes kept }) (taken true packets);
-    removals = unit_removals origin kept;
+    removals = unit_removals zero kept;
   }
 
 -- that of a file
-abbrev pub IsVideoStream : List ℕ → (origin : ℕ) → KeptUnits → (pid : ℕ) → List PesUnit → AuditedStream → Type 0
-IsVideoStream file origin kept pid packets stream = IsVideoOf (places_on file pid) origin kept pid packets stream
+abbrev pub IsVideoStream : List ℕ → (clock_zero : ℕ) → KeptUnits → (pid : ℕ) → List PesUnit → AuditedStream → Type 0
+IsVideoStream file clock_zero kept pid packets stream = IsVideoOf (places_on file pid) clock_zero kept pid packets stream
 
 -- An audio stream whose packets on its PID are these: its PES packets that are taken, with the whole elementary stream in them, and its frames.
-pub record IsAudioOf (places : List Place) (origin : ℕ) (kept : KeptUnits) (audio : AudioStream) (stream : AuditedStream) : Type 0 where
+pub record IsAudioOf (places : List Place) (zero : ℕ) (kept : KeptUnits) (audio : AudioStream) (stream : AuditedStream) : Type 0 where
   pub frames : List Frame
   pub framed : HasFrames (first_time kept) (taken false audio.units) frames
   pub stream_is : stream ≡ record {
     pid = audio.pid;
     kind = Audio;
     arrivals = arrivals_by places (record { from = 0; to = length (elementary_bytes (taken false audio.units)) }) (taken false audio.units);
-    removals = frame_removals origin kept (taken false audio.units) frames;
+    removals = frame_removals zero kept (taken false audio.units) frames;
   }
 
 -- that of a file
-abbrev pub IsAudioStream : List ℕ → (origin : ℕ) → KeptUnits → AudioStream → AuditedStream → Type 0
-IsAudioStream file origin kept audio stream = IsAudioOf (places_on file audio.pid) origin kept audio stream
+abbrev pub IsAudioStream : List ℕ → (clock_zero : ℕ) → KeptUnits → AudioStream → AuditedStream → Type 0
+IsAudioStream file clock_zero kept audio stream = IsAudioOf (places_on file audio.pid) clock_zero kept audio stream
 
 -- audio streams, one for each
-abbrev pub AreAudioStreams : List ℕ → (origin : ℕ) → KeptUnits → List AudioStream → List AuditedStream → Type 0
-AreAudioStreams file origin kept [] [] = Unit {0}
-AreAudioStreams file origin kept (audio ∷ audios) (stream ∷ streams) = IsAudioStream file origin kept audio stream × AreAudioStreams file origin kept audios streams
-AreAudioStreams file origin kept audios streams = ⊥
+abbrev pub AreAudioStreams : List ℕ → (clock_zero : ℕ) → KeptUnits → List AudioStream → List AuditedStream → Type 0
+AreAudioStreams file clock_zero kept [] [] = Unit {0}
+AreAudioStreams file clock_zero kept (audio ∷ audios) (stream ∷ streams) = IsAudioStream file clock_zero kept audio stream × AreAudioStreams file clock_zero kept audios streams
+AreAudioStreams file clock_zero kept audios streams = ⊥
 
 -- the packet of a number, on whichever PID it is
 abbrev pub place_of : List ℕ → ℕ → Place

@@ -3,7 +3,7 @@ ghost use Rattle.std.specs.Prelude.{◌≡◌, ◌⊎◌, ◌≤◌, ◌<◌, �
 ghost use Rattle.std.specs.List.{sum_by};
 ghost use Rattle.audio_frames.specs.declared.limits.TheConstants.{PAYLOAD_BYTES_MOST};
 ghost use Rattle.stream_audit.specs.declared.audit_stop.AuditStop.TheVariants.{OutOfMemory};
-ghost use Rattle.stream_audit.specs.Refusals.{IsAudioStopped, of_audio};
+ghost use Rattle.stream_audit.specs.Refusals.{IsAudioUnread, of_audio};
 ghost use Rattle.stream_audit.specs.Private.AudioRead.{IsAudioRead};
 
 use crate::audit_stop::AuditStop;
@@ -30,7 +30,7 @@ pub fn read_audio(alloc: Global, stream: &AudioStream, first: u64) -> Result<Rea
     requires few { length stream.now.units ≤ PES_PACKETS_MOST }
     requires size { sum_by (λ packet. length packet.bytes) stream.now.units ≤ PAYLOAD_BYTES_MOST }
     requires first { first < 2 ^ 33 }
-    ensures { MatchResult result (IsAudioRead first stream.now) (λ stop. (stop ≡ OutOfMemory) ⊎ IsAudioStopped first stream.now stop) }
+    ensures { MatchResult result (IsAudioRead first stream.now) (λ stop. (stop ≡ OutOfMemory) ⊎ IsAudioUnread first stream.now stop) }
 {
     let taken = match take_pes(alloc, stream.units.as_slice(), false) {
         Ok(taken) => taken,

@@ -1,3 +1,6 @@
+ghost use Rattle.std.specs.Prelude.{◌≡◌};
+ghost use Rattle.stream_audit.specs.Refusals.{of_demux};
+
 use audio_frames::AudioFault;
 use list_types::OutOfMemory;
 use pes_units::PesFault;
@@ -23,6 +26,9 @@ pub enum AuditStop {
     /// The PID of the program's clock references has none.
     #[error("no program clock reference")]
     NoPcr,
+    /// The file has more than `AUDITED_BYTES_MOST` bytes, or a frame of an audio stream is due later than 2^52 ticks.
+    #[error("a limit of programs is passed")]
+    ProgramLimit,
     /// Memory was wanted and not there.
     #[error("out of memory")]
     OutOfMemory,
@@ -47,5 +53,15 @@ impl From<AllocError> for AuditStop {
 
     fn from(_e: AllocError) -> AuditStop {
         AuditStop::OutOfMemory
+    }
+}
+
+/// What stops an audit for a fault of packets or sections, or for memory that was wanted for them.
+pub(crate) fn demux_stop(fault: DemuxFault) -> AuditStop
+    ensures { result ≡ of_demux fault }
+{
+    match fault {
+        DemuxFault::OutOfMemory => AuditStop::OutOfMemory,
+        _ => AuditStop::Demux(fault),
     }
 }

@@ -7,7 +7,7 @@ ghost use Rattle.audio_frames.specs.declared.frame.Frame.{Frame};
 ghost use Rattle.stream_audit.specs.declared.audit_stop.AuditStop.TheVariants.{OutOfMemory};
 ghost use Rattle.stream_audit.specs.Findings.{CanBeJudged};
 ghost use Rattle.stream_audit.specs.PesBytes.{taken};
-ghost use Rattle.stream_audit.specs.Refusals.{IsAudioStopped};
+ghost use Rattle.stream_audit.specs.Refusals.{IsAudioSound, IsAudioStopped};
 ghost use Rattle.stream_audit.specs.Removals.{HasFrames, first_due, first_time, frame_due};
 ghost use Rattle.stream_audit.specs.Streams.{IsAudioOf};
 
@@ -26,7 +26,7 @@ use tstd_model::BufferKind;
 
 /// An audio stream of a program, whose packets on its PID are these: its PES packets that are taken, with all that they carry, and its
 /// frames, removed by the clock of the file, which shows `zero` when its first byte comes. The judge can look at it. An error is what
-/// refuses its PES packets, else its frames; or want of memory.
+/// refuses its PES packets, else its frames, else that one is due later than 2^52 ticks; or want of memory.
 pub fn audio_stream(
     alloc: Global,
     zero: u64,
@@ -37,14 +37,14 @@ pub fn audio_stream(
     requires due_fits { first_due kept.now ≤ 2 ^ 52 }
     requires few_units { length stream.now.units ≤ PES_PACKETS_MOST }
     requires few_bytes { sum_by (λ packet. length packet.bytes) stream.now.units < 2 ^ 31 }
-    requires times_fit { (frames : List Frame) → HasFrames (first_time kept.now) (taken false stream.now.units) frames → All (λ frame. frame_due kept.now frame ≤ℤ pos (2 ^ 52)) frames }
     requires few_packets { length places.now ≤ 2 ^ 32 }
     requires numbers { All (λ place. place.packet < 2 ^ 32) places.now }
     requires payloads { All (λ place. place.payload ≤ PACKET_BYTES) places.now }
     requires packets_rise { IsStrictlyIncreasing (map (λ place. place.packet) places.now) }
     ensures stream { IfOk result (IsAudioOf places.now zero kept.now stream.now) }
+    ensures sound { IfOk result (λ _. IsAudioSound kept.now stream.now) }
     ensures judged { IfOk result CanBeJudged }
-    ensures refused { IfErr result (λ stop. (stop ≡ OutOfMemory) ⊎ IsAudioStopped (first_time kept.now) stream.now stop) }
+    ensures refused { IfErr result (λ stop. (stop ≡ OutOfMemory) ⊎ IsAudioStopped kept.now stream.now stop) }
 {
     let first = time_shown(kept.base, first_due(kept));
     let read = match read_audio(alloc, stream, first) {
@@ -52,12 +52,12 @@ pub fn audio_stream(
         Err(stop) => return Err(stop),
     };
     let clock = FrameClock::new(zero, kept);
-    let removals = frame_removals(
-        alloc,
-        &clock,
-        read.packets.as_slice(),
-        read.frames.as_slice(),
-    )?;
+    let placed = read.packets.as_slice();
+    let timed = read.frames.as_slice();
+    if clock.has_late(timed) {
+        return Err(AuditStop::ProgramLimit);
+    }
+    let removals = frame_removals(alloc, &clock, placed, timed)?;
     let taken = front(stream.units.as_slice(), read.packets.len());
     let bytes = KeptBytes {
         skipped: 0,

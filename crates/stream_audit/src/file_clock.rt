@@ -4,7 +4,7 @@ ghost use Rattle.ts_packets.specs.TransportStream.{piece_count};
 ghost use Rattle.stream_audit.specs.Clock.{IsClockOf};
 ghost use Rattle.stream_audit.specs.Refusals.{IsClockStopped};
 
-use crate::audit_stop::AuditStop;
+use crate::audit_stop::{AuditStop, demux_stop};
 use crate::clock::clock_in;
 use crate::packets_of::stream_packets;
 use std::alloc::Global;
@@ -34,7 +34,7 @@ pub fn found_clock(alloc: Global, file: &[u8], slot: u32, pid: u16) -> Result<Fo
     }
     let places = match stream_packets(alloc, file, pid) {
         Ok(places) => places,
-        Err(fault) => return Err(AuditStop::Demux(fault)),
+        Err(fault) => return Err(demux_stop(fault)),
     };
     let clock = clock_in(slot, places.as_slice());
     match clock.zero() {

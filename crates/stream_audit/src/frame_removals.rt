@@ -1,10 +1,11 @@
 //! When a decoder removes the frames of an audio stream, by the clock of the file (ISO/IEC 13818-1, 2.4.2.3).
-ghost use Rattle.std.specs.Prelude.{◌≡◌, ◌≤◌, ◌<◌, ◌+◌, ◌^◌, All, IfOk, map, pos, ◌+ℤ◌, ◌-ℤ◌, ◌*◌, ◌/◌, ◌%◌};
+ghost use Rattle.std.specs.Prelude.{◌≡◌, ◌≤◌, ◌<◌, ◌+◌, ◌^◌, All, IfOk, false, map, pos, true, ◌+ℤ◌, ◌-ℤ◌, ◌*◌, ◌/◌, ◌%◌, ◌≤ℤ◌};
 ghost use Rattle.std.specs.List.{sum_by};
 ghost use Rattle.stream_constants.specs.declared.clock.TheConstants.{TICKS_PER_TIME_UNIT};
 ghost use Rattle.pcr_writer.specs.declared.pcr.TheConstants.{PCR_MODULUS};
 ghost use Rattle.stream_audit.specs.Removals.{first_due, first_time, removed_at};
-ghost use Rattle.stream_audit.specs.Private.FrameRemovals.{AreChained, Climb, CountsHeaders, FallsWithin, frame_removal};
+ghost use Rattle.stream_audit.specs.Private.FrameRemovals.{AreChained, Climb, CountsHeaders, FallsWithin, IsOffset, frame_removal};
+ghost use Rattle.stream_audit.specs.Private.PesStarts.{IsTime};
 
 use crate::clock::{behind, ticks_from};
 use crate::kept_units::KeptUnits;
@@ -16,6 +17,9 @@ use pcr_writer::PCR_MODULUS;
 use std::alloc::Global;
 use stream_constants::clock::TICKS_PER_TIME_UNIT;
 use tstd_model::Removal;
+
+/// The latest due of a frame, in ticks: five years.
+const DUE_MOST: i64 = 1 << 52;
 
 /// The clock by which the frames of a program's audio streams are removed.
 #[derive(Clone, Copy)]
@@ -35,6 +39,7 @@ impl FrameClock {
         ensures zero { result.zero ≡ zero }
         ensures base { result.base ≡ kept.now.base }
         ensures offset { result.offset ≡ pos (first_due kept.now) -ℤ pos (TICKS_PER_TIME_UNIT * first_time kept.now) }
+        ensures fits { IsOffset result.offset }
     {
         let due = first_due(kept);
         let time = time_shown(kept.base, due);
@@ -43,6 +48,31 @@ impl FrameClock {
             base: kept.base,
             offset: due as i64 - (TICKS_PER_TIME_UNIT * time) as i64,
         }
+    }
+
+    /// Whether one of some frames is due later than 2^52 ticks.
+    pub fn has_late(&self, frames: &[Frame]) -> bool
+        requires offset { IsOffset self.now.offset }
+        requires times { All (λ frame. IsTime frame.time) frames.now }
+        ensures late { result ≡ true → All (λ frame. (frame.time +ℤ self.now.offset) ≤ℤ pos (2 ^ 52)) frames.now → ⊥ }
+        ensures in_time { result ≡ false → All (λ frame. (frame.time +ℤ self.now.offset) ≤ℤ pos (2 ^ 52)) frames.now }
+    {
+        for frame in frames {
+            if self.is_late(frame) {
+                return true;
+            }
+        }
+        false
+    }
+
+    /// Whether a frame is.
+    fn is_late(&self, frame: &Frame) -> bool
+        requires offset { IsOffset self.now.offset }
+        requires time { IsTime frame.now.time }
+        ensures late { result ≡ true → (frame.now.time +ℤ self.now.offset) ≤ℤ pos (2 ^ 52) → ⊥ }
+        ensures in_time { result ≡ false → (frame.now.time +ℤ self.now.offset) ≤ℤ pos (2 ^ 52) }
+    {
+        frame.time + self.offset > DUE_MOST
     }
 
     /// The ticks from the file's first byte on up to a frame's time.

@@ -5,7 +5,7 @@ ghost use Rattle.stream_constants.specs.declared.main_level.TheConstants.{VBV_MO
 ghost use Rattle.stream_constants.specs.declared.packets.TheConstants.{PACKET_BYTES};
 ghost use Rattle.stream_audit.specs.declared.audit_stop.AuditStop.TheVariants.{OutOfMemory};
 ghost use Rattle.stream_audit.specs.Findings.{CanBeJudged};
-ghost use Rattle.stream_audit.specs.Refusals.{IsVideoStopped};
+ghost use Rattle.stream_audit.specs.Refusals.{IsVideoSound, IsVideoStopped};
 ghost use Rattle.stream_audit.specs.Removals.{unit_bytes};
 ghost use Rattle.stream_audit.specs.Streams.{IsVideoOf};
 
@@ -53,6 +53,7 @@ pub fn video_of(
     requires payloads { All (λ place. place.payload ≤ PACKET_BYTES) places.now }
     requires packets_rise { IsStrictlyIncreasing (map (λ place. place.packet) places.now) }
     ensures stream { IfOk result (IsVideoOf places.now zero kept.now pid packets.now) }
+    ensures sound { IfOk result (λ _. IsVideoSound packets.now) }
     ensures judged { IfOk result CanBeJudged }
     ensures refused { IfErr result (λ stop. (stop ≡ OutOfMemory) ⊎ IsVideoStopped packets.now stop) }
 {

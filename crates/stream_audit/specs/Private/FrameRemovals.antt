@@ -35,6 +35,11 @@ pub record FallsWithin (due : ℤ) : Type 0 where
   pub least : neg_ℤ (pos (2 ^ 63 - 2 ^ 40)) ≤ℤ due
   pub most : due ≤ℤ pos (2 ^ 52)
 
+-- the due of a first unit, less the time that it states
+pub record IsOffset (offset : ℤ) : Type 0 where
+  pub least : neg_ℤ (pos (2 ^ 52)) ≤ℤ offset
+  pub most : offset ≤ℤ pos (2 ^ 52)
+
 -- what a frame removes, by a clock
 abbrev pub frame_removal : FrameClock → List PlacedPes → Frame → Removal
 frame_removal clock packets frame = record {

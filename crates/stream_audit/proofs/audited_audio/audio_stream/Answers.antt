@@ -3,48 +3,65 @@ use Rattle.stream_constants.specs.declared.clock.TheConstants.{TICKS_PER_TIME_UN
 use Rattle.pcr_writer.specs.declared.pcr.TheConstants.{PCR_MODULUS}
 use Rattle.stream_audit.specs.PesBytes.{arrivals_of}
 use Rattle.stream_audit.specs.Private.FrameRemovals.{AreChained}
-use Rattle.stream_audit.proofs.AudioFacts.{audio_judged, frames_fall, front_few, front_taken, is_audio, read_chained, read_climb, read_headers, read_lengths, read_places}
+use Rattle.stream_audit.proofs.AudioFacts.{audio_judged, audio_late, audio_sound, audio_unread, frames_fall, front_few, front_taken, is_audio, read_chained, read_climb, read_headers, read_lengths, read_places}
 use Rattle.stream_audit.proofs.audited_audio.audio_stream.Goals as goal
 
 pub frame_removals-requires-clause-chained : goal.frame_removals-requires-clause-chained
 frame_removals-requires-clause-chained c =
-    subst (λ frames. AreChained 0 frames) (sym c.as_slice-2.ensures) (read_chained c.time_shown-first.result c.args.stream.now c.in-Ok.read c.in-Ok.ensures c.requires.few_bytes)
+    subst (λ frames. AreChained 0 frames) (sym c.as_slice-timed.ensures) (read_chained c.time_shown-first.result c.args.stream.now c.in-Ok.read c.in-Ok.ensures c.requires.few_bytes)
 
 pub frame_removals-requires-clause-climb : goal.frame_removals-requires-clause-climb
-frame_removals-requires-clause-climb c = read_climb c.time_shown-first.result c.args.stream.now c.in-Ok.read c.in-Ok.ensures c.requires.few_bytes c.as_slice.result.now c.as_slice.ensures.value
+frame_removals-requires-clause-climb c = read_climb c.time_shown-first.result c.args.stream.now c.in-Ok.read c.in-Ok.ensures c.requires.few_bytes c.as_slice-placed.result.now c.as_slice-placed.ensures.value
 
 pub frame_removals-requires-clause-headers : goal.frame_removals-requires-clause-headers
-frame_removals-requires-clause-headers c = read_headers c.time_shown-first.result c.args.stream.now c.in-Ok.read c.in-Ok.ensures c.requires.few_bytes c.as_slice.result.now c.as_slice.ensures.value
+frame_removals-requires-clause-headers c = read_headers c.time_shown-first.result c.args.stream.now c.in-Ok.read c.in-Ok.ensures c.requires.few_bytes c.as_slice-placed.result.now c.as_slice-placed.ensures.value
 
 pub frame_removals-requires-clause-lengths : goal.frame_removals-requires-clause-lengths
-frame_removals-requires-clause-lengths c = read_lengths c.time_shown-first.result c.args.stream.now c.in-Ok.read c.in-Ok.ensures c.requires.few_bytes c.as_slice-2.result.now c.as_slice-2.ensures
+frame_removals-requires-clause-lengths c = read_lengths c.time_shown-first.result c.args.stream.now c.in-Ok.read c.in-Ok.ensures c.requires.few_bytes c.as_slice-timed.result.now c.as_slice-timed.ensures
 
 pub frame_removals-requires-clause-places : goal.frame_removals-requires-clause-places
-frame_removals-requires-clause-places c = read_places c.time_shown-first.result c.args.stream.now c.in-Ok.read c.in-Ok.ensures c.requires.few_bytes c.as_slice-2.result.now c.as_slice-2.ensures
+frame_removals-requires-clause-places c = read_places c.time_shown-first.result c.args.stream.now c.in-Ok.read c.in-Ok.ensures c.requires.few_bytes c.as_slice-timed.result.now c.as_slice-timed.ensures
 
 pub frame_removals-requires-clause-fall : goal.frame_removals-requires-clause-fall
 frame_removals-requires-clause-fall c =
     let first_is = c.time_shown-first.ensures.value ∙ ap (λ due. (c.args.kept.now.base + due) % PCR_MODULUS / TICKS_PER_TIME_UNIT) c.first_due.ensures in
-    frames_fall c.time_shown-first.result c.args.kept.now c.args.stream.now c.in-Ok.read c.as_slice-2.result.now c.new-clock.result.offset c.in-Ok.ensures first_is
-    c.time_shown-first.ensures.few c.as_slice-2.ensures c.new-clock.ensures.offset c.requires.times_fit
+    frames_fall c.time_shown-first.result c.args.kept.now c.args.stream.now c.in-Ok.read c.as_slice-timed.result.now c.new-clock.result.offset c.in-Ok.ensures first_is
+    c.time_shown-first.ensures.few c.as_slice-timed.ensures c.new-clock.ensures.offset (c.has_late.ensures.in_time c.if-has_late.false)
 
 pub front-taken-requires : goal.front-taken-requires
 front-taken-requires c =
-    front_few c.time_shown-first.result c.args.stream.now c.in-Ok.read c.as_slice-3.result.now c.len.result c.in-Ok.ensures c.as_slice-3.ensures
-    (c.len.ensures ∙ sym c.as_slice.ensures.len ∙ ap (λ placed. length placed) c.as_slice.ensures.value)
+    front_few c.time_shown-first.result c.args.stream.now c.in-Ok.read c.as_slice.result.now c.len.result c.in-Ok.ensures c.as_slice.ensures
+    (c.len.ensures ∙ sym c.as_slice-placed.ensures.len ∙ ap (λ placed. length placed) c.as_slice-placed.ensures.value)
 
 pub returns-clause-stream : goal.returns-clause-stream
 returns-clause-stream c =
     let first_is = c.time_shown-first.ensures.value ∙ ap (λ due. (c.args.kept.now.base + due) % PCR_MODULUS / TICKS_PER_TIME_UNIT) c.first_due.ensures in
-    let front_is = front_taken c.time_shown-first.result c.args.stream.now c.in-Ok.read c.as_slice-3.result.now c.front-taken.result.now c.len.result c.in-Ok.ensures c.as_slice-3.ensures
-    (c.len.ensures ∙ sym c.as_slice.ensures.len ∙ ap (λ placed. length placed) c.as_slice.ensures.value) c.front-taken.ensures in
+    let front_is = front_taken c.time_shown-first.result c.args.stream.now c.in-Ok.read c.as_slice.result.now c.front-taken.result.now c.len.result c.in-Ok.ensures c.as_slice.ensures
+    (c.len.ensures ∙ sym c.as_slice-placed.ensures.len ∙ ap (λ placed. length placed) c.as_slice-placed.ensures.value) c.front-taken.ensures in
     is_audio c.args.zero c.time_shown-first.result c.in-Ok.read.bytes c.bytes_before.result c.args.kept.now c.args.places.now c.args.stream.now c.in-Ok.read c.new-clock.result
-    c.front-taken.result.now c.as_slice.result.now c.as_slice-2.result.now c.in_ok-arrivals.arrivals c.in_ok-removals.removals c.in-Ok.ensures first_is refl c.bytes_before.ensures
-    c.new-clock.ensures.zero c.new-clock.ensures.base c.new-clock.ensures.offset front_is c.as_slice.ensures.value c.as_slice-2.ensures
+    c.front-taken.result.now c.as_slice-placed.result.now c.as_slice-timed.result.now c.in_ok-arrivals.arrivals c.in_ok-removals.removals c.in-Ok.ensures first_is refl c.bytes_before.ensures
+    c.new-clock.ensures.zero c.new-clock.ensures.base c.new-clock.ensures.offset front_is c.as_slice-placed.ensures.value c.as_slice-timed.ensures
     (c.in_ok-arrivals.ensures.arrivals ∙ ap (λ parts. arrivals_of c.args.places.now parts) c.new-parts.ensures) c.in_ok-removals.ensures.removals
 
 pub returns-clause-judged : goal.returns-clause-judged
 returns-clause-judged c =
-    audio_judged c.time_shown-first.result c.args.places.now c.args.stream.now c.in-Ok.read c.new-clock.result c.as_slice.result.now c.as_slice-2.result.now c.in_ok-arrivals.arrivals
-    c.in_ok-removals.removals c.args.stream.now.pid c.in-Ok.ensures c.requires.few_bytes c.as_slice-2.ensures c.requires.packets_rise c.in_ok-arrivals.ensures.slots
+    audio_judged c.time_shown-first.result c.args.places.now c.args.stream.now c.in-Ok.read c.new-clock.result c.as_slice-placed.result.now c.as_slice-timed.result.now c.in_ok-arrivals.arrivals
+    c.in_ok-removals.removals c.args.stream.now.pid c.in-Ok.ensures c.requires.few_bytes c.as_slice-timed.ensures c.requires.packets_rise c.in_ok-arrivals.ensures.slots
     c.in_ok-arrivals.ensures.headers c.in_ok-removals.ensures.removals c.in_ok-removals.ensures.fit
+
+pub returns-clause-sound : goal.returns-clause-sound
+returns-clause-sound c =
+    let first_is = c.time_shown-first.ensures.value ∙ ap (λ due. (c.args.kept.now.base + due) % PCR_MODULUS / TICKS_PER_TIME_UNIT) c.first_due.ensures in
+    audio_sound c.time_shown-first.result c.args.kept.now c.args.stream.now c.in-Ok.read c.as_slice-timed.result.now c.new-clock.result.offset c.in-Ok.ensures first_is c.as_slice-timed.ensures
+    c.new-clock.ensures.offset (c.has_late.ensures.in_time c.if-has_late.false)
+
+pub returns-then-has_late-clause-refused : goal.returns-then-has_late-clause-refused
+returns-then-has_late-clause-refused c =
+    let first_is = c.time_shown-first.ensures.value ∙ ap (λ due. (c.args.kept.now.base + due) % PCR_MODULUS / TICKS_PER_TIME_UNIT) c.first_due.ensures in
+    audio_late c.time_shown-first.result c.args.kept.now c.args.stream.now c.in-Ok.read c.as_slice-timed.result.now c.new-clock.result.offset c.in-Ok.ensures first_is c.as_slice-timed.ensures
+    c.new-clock.ensures.offset (c.has_late.ensures.late c.if-has_late.true)
+
+pub returns-in-Err-clause-refused : goal.returns-in-Err-clause-refused
+returns-in-Err-clause-refused c =
+    let first_is = c.time_shown-first.ensures.value ∙ ap (λ due. (c.args.kept.now.base + due) % PCR_MODULUS / TICKS_PER_TIME_UNIT) c.first_due.ensures in
+    audio_unread c.time_shown-first.result c.args.kept.now c.args.stream.now c.in-Err.stop first_is c.in-Err.ensures
