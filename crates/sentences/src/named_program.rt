@@ -95,15 +95,14 @@ impl<'a> NamedProgram<'a> {
         Some(pids)
     }
 
-    /// Its video, or its audio stream where it has one alone.
-    pub(crate) fn only_stream<R: Files + AllocGlobal>(
-        &self,
-        rt: &R,
-        is_video: bool,
-    ) -> Option<StreamPid> {
-        let streams = self.streams(rt)?;
-        match streams.as_slice() {
-            [video, ..] if is_video => Some(*video),
+    /// Its video.
+    pub(crate) fn video<R: Files + AllocGlobal>(&self, rt: &R) -> Option<StreamPid> {
+        self.streams(rt)?.as_slice().first().copied()
+    }
+
+    /// Its audio stream, where it has one alone.
+    pub(crate) fn only_audio<R: Files + AllocGlobal>(&self, rt: &R) -> Option<StreamPid> {
+        match self.streams(rt)?.as_slice() {
             [_, audio] => Some(*audio),
             _ => None,
         }
