@@ -18,3 +18,5 @@ pub mod AudioFacts
 pub mod VideoFacts
 pub mod CarriedSizes
 pub mod AuditLaws
+mod OneFinding
+pub mod OneAudit
