@@ -1,0 +1,2 @@
+pub mod AudioStarts
+pub mod TakenPackets
