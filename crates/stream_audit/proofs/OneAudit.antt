@@ -6,7 +6,7 @@ use Rattle.stream_constants.specs.declared.packets.TheConstants.{PACKET_BYTES}
 use Rattle.audio_frames.specs.declared.frame.Frame.{Frame}
 use Rattle.psi_tables.specs.declared.stream.Stream.{Stream}
 use Rattle.ts_packets.specs.declared.pid_fault.PidFault.{PidFault}
-use Rattle.ts_packets.specs.TransportStream.{pid_pieces, piece}
+use Rattle.ts_packets.specs.TransportStream.{pid_pieces}
 use Rattle.ts_demux.specs.declared.demuxed.AudioStream.{AudioStream}
 use Rattle.ts_demux.specs.declared.demuxed.Demuxed.{Demuxed}
 use Rattle.ts_demux.specs.declared.demuxed.PesUnit.{PesUnit}
@@ -16,7 +16,7 @@ use Rattle.ts_demux.specs.declared.pid_places.Place.{Place}
 use Rattle.ts_demux.specs.Demux.{AreStreamsSound, IsDemuxRefused, IsDemuxed, IsFirstStreamFault, IsStreamFault}
 use Rattle.ts_demux.specs.Faults.{of_pid}
 use Rattle.ts_demux.specs.PidPlaces.{IsPlacesFault, places_on}
-use Rattle.ts_demux.specs.Tables.{HasPidFault, IsMapPid, pat_pid}
+use Rattle.ts_demux.specs.Tables.{HasPidFault, IsMapPid, pat_pid, piece}
 use Rattle.ts_demux.proofs.OneAnswer.{one_demuxed, one_refusal}
 use Rattle.ts_demux.proofs.OneAnswer as demux_answers
 use Rattle.ts_demux.proofs.OneStop.{no_sync_first, one_pat, one_pid_fault}
