@@ -25,7 +25,7 @@ use Rattle.program_table.proofs.AudioTimes.{Follow, InOrder, Reach, Rise, follow
 -- ---- numbers that don't fall
 
 -- each number is at least as great as this one, and as the one before
-abbrev Mount : (low : ℕ) → List ℕ → Type 0
+abbrev pub Mount : (low : ℕ) → List ℕ → Type 0
 Mount low [] = Unit {0}
 Mount low (n ∷ ns) = (low ≤ n) × Mount n ns
 

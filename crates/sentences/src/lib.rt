@@ -9,11 +9,13 @@
 #![tactic(auto)]
 
 mod amounts;
+mod audited;
 mod buffers;
 mod carrier;
 mod certificates;
 mod clock;
 mod coarser;
+mod crowd;
 mod done;
 mod extent;
 mod first_header;
