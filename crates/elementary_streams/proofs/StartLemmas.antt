@@ -43,7 +43,7 @@ use Rattle.pes_units.specs.Times.{decoding_time}
 use Rattle.elementary_streams.specs.declared.pes_packets.PlacedPacket.{PlacedPacket}
 use Rattle.elementary_streams.specs.Audio.{IsOnAxis, AreStartsOf}
 use Rattle.elementary_streams.specs.NearTimes.{IsNear}
-use Rattle.elementary_streams.specs.Private.AudioStarts.{last_time}
+use Rattle.elementary_streams.specs.Private.PesStarts.{last_time}
 
 pub starts_push : (before : ℤ) (packets : List PlacedPacket) (starts : List PesStart) (packet : PlacedPacket) (start : PesStart) → AreStartsOf before packets starts →
     start.at ≡ packet.from → IsOnAxis (last_time before starts) (decoding_time packet.header.times) start.time →

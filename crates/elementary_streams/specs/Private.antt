@@ -1,2 +1,2 @@
-pub mod AudioStarts
+pub mod PesStarts
 pub mod TakenPackets

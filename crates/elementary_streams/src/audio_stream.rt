@@ -8,8 +8,8 @@ ghost use Rattle.elementary_streams.specs.Audio.{IsStreamRead, IsStreamRefused, 
 ghost use Rattle.elementary_streams.specs.NearTimes.{IsNear};
 ghost use Rattle.elementary_streams.specs.Packets.{joined};
 
-use crate::audio_starts::{AxisTime, PES_PACKETS_MOST, audio_starts};
 use crate::pes_packets::{PlacedPacket, TakenPackets, count_of, take_packets};
+use crate::pes_starts::{AxisTime, PES_PACKETS_MOST, audio_starts};
 use crate::stream_fault::{StreamFault, frames_refused};
 use audio_frames::{Frame, frames, has_low_rate};
 use list_types::ListOf;

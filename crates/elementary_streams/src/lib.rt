@@ -6,13 +6,13 @@
 //! Stands on `ts_demux`, `pes_units` and `audio_frames`.
 #![tactic(auto)]
 
-mod audio_starts;
 mod audio_stream;
 pub mod laws;
 mod pes_packets;
+mod pes_starts;
 mod stream_fault;
 
-pub use audio_starts::{AxisTime, PES_PACKETS_MOST, audio_starts, decoding_time};
 pub use audio_stream::{ReadStream, read_stream};
 pub use pes_packets::{PlacedPacket, TakenPackets, bytes_behind, bytes_of, take_packets};
+pub use pes_starts::{AxisTime, PES_PACKETS_MOST, audio_starts, decoding_time};
 pub use stream_fault::StreamFault;

@@ -1,9 +1,9 @@
 use Rattle.std.proofs.Common.{◌≡◌, take}
-use Rattle.elementary_streams.specs.declared.audio_starts.TheConstants.{PES_PACKETS_MOST}
+use Rattle.elementary_streams.specs.declared.pes_starts.TheConstants.{PES_PACKETS_MOST}
 use Rattle.elementary_streams.specs.Audio.{AreStartsOf}
 use Rattle.elementary_streams.specs.NearTimes.{IsNear, AreNear}
-use Rattle.elementary_streams.specs.Private.AudioStarts.{last_time}
-use Rattle.elementary_streams.proofs.audio_starts.audio_starts.Given as goal
+use Rattle.elementary_streams.specs.Private.PesStarts.{last_time}
+use Rattle.elementary_streams.proofs.pes_starts.audio_starts.Given as goal
 
 abbrev pub invariant-loop-packet : goal.invariant-loop-packet
 invariant-loop-packet l = record {

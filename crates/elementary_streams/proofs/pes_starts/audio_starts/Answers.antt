@@ -1,5 +1,5 @@
 use Rattle.elementary_streams.proofs.StartLemmas.{Begun, begun_step}
-use Rattle.elementary_streams.proofs.audio_starts.audio_starts.Goals as goal
+use Rattle.elementary_streams.proofs.pes_starts.audio_starts.Goals as goal
 
 pub loop-packet-preserved : goal.loop-packet-preserved
 loop-packet-preserved c =
