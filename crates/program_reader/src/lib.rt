@@ -39,7 +39,7 @@ mod video_walk;
 pub use carry::unit_weight;
 pub use kept_units::KeptUnit;
 pub use program::{AudioPiece, AudioSource, Program, UnitSource};
-pub use program_fault::{ProgramFault, SourceKind};
+pub use program_fault::{ProgramFault, SourceKind, audio_refused, demux_refused, pes_refused};
 pub use reading::{SizedProgram, read_program, read_sized_program};
 pub use timed_picture::{Role, TimedPicture};
 pub use times_walk::TimesWalk;

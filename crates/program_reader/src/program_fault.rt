@@ -93,6 +93,8 @@ pub enum SourceKind {
     AudioSync,
     /// The first audio frame has no time.
     NoAudioTime,
+    /// No program clock reference on the PID that the map says: of a program that is audited alone.
+    NoPcr,
     /// A limit of this project is passed.
     ProgramLimit,
 }
@@ -143,7 +145,7 @@ impl<T: Drop> From<AllocFailed<T>> for ProgramFault {
 }
 
 /// What the transport packets and the tables are refused for.
-pub(crate) fn demux_refused(fault: DemuxFault) -> ProgramFault
+pub fn demux_refused(fault: DemuxFault) -> ProgramFault
     ensures { result ≡ of_demux fault }
 {
     let (kind, at) = match fault {
@@ -184,7 +186,7 @@ pub(crate) fn split_refused(fault: SplitFault) -> ProgramFault
 }
 
 /// What a PES packet at a place of the file is refused for.
-pub(crate) fn pes_refused(at: u64, fault: PesFault) -> ProgramFault
+pub fn pes_refused(at: u64, fault: PesFault) -> ProgramFault
     ensures { result ≡ of_pes at fault }
 {
     let kind = match fault {
@@ -198,7 +200,7 @@ pub(crate) fn pes_refused(at: u64, fault: PesFault) -> ProgramFault
 }
 
 /// What the frames of an audio stream are refused for.
-fn audio_refused(fault: AudioFault) -> ProgramFault
+pub fn audio_refused(fault: AudioFault) -> ProgramFault
     ensures { result ≡ of_audio fault }
 {
     let (kind, at) = match fault {

@@ -25,7 +25,7 @@ use Rattle.program_table.proofs.AudioTimes.{Follow, InOrder, Reach, Rise, follow
 -- ---- numbers that don't fall
 
 -- each number is at least as great as this one, and as the one before
-abbrev Mount : (low : ℕ) → List ℕ → Type 0
+abbrev pub Mount : (low : ℕ) → List ℕ → Type 0
 Mount low [] = Unit {0}
 Mount low (n ∷ ns) = (low ≤ n) × Mount n ns
 
@@ -39,7 +39,7 @@ mount-least low (n ∷ ns) zero d mount within = mount.0
 mount-least low (n ∷ ns) (suc j) d mount within =
     let rest : n ≤ slice_index_or ns j d = mount-least n ns j d mount.1 (omega (arith, within)) in omega (arith, rest, mount.0)
 
-mount-rises : (low : ℕ) (ns : List ℕ) → Mount low ns → IsNonDecreasing ns
+pub mount-rises : (low : ℕ) (ns : List ℕ) → Mount low ns → IsNonDecreasing ns
 mount-rises low [] mount i j d order within = absurd (omega (arith, within))
 mount-rises low (n ∷ ns) mount zero zero d order within = omega arith
 mount-rises low (n ∷ ns) mount zero (suc j) d order within = mount-least n ns j d mount.1 (omega (arith, within))

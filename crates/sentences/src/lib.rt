@@ -9,12 +9,17 @@
 #![tactic(auto)]
 
 mod amounts;
+<<<<<<< HEAD
 mod audio_again;
+=======
+mod audited;
+>>>>>>> 368d610a8cf5258cbed5e5ddadaf3682e052b913
 mod buffers;
 mod carrier;
 mod certificates;
 mod clock;
 mod coarser;
+mod crowd;
 mod done;
 mod extent;
 mod first_header;

@@ -25,9 +25,10 @@ pub(crate) fn refused_source<R: Files + AllocGlobal>(
     end: &End<'_>,
     line: &Value,
 ) -> Result<String, AllocError> {
-    if end.word(0) == "probe" {
-        let of = format!(in rt.alloc(); "program {} of {}", end.word(2), end.word(1))?;
-        return refused_in(rt, of.as_str(), NamedProgram::of_probe(end), line);
+    match end.word(0) {
+        "probe" => return refused_alone(rt, end, NamedProgram::of_probe(end), line),
+        "audit" => return refused_alone(rt, end, NamedProgram::of_audit(end), line),
+        _ => {}
     }
     match job_table(rt, end.word(1)) {
         Some(table) => {
@@ -36,6 +37,17 @@ pub(crate) fn refused_source<R: Files + AllocGlobal>(
         }
         None => refused_of_job(rt, end, None, line),
     }
+}
+
+/// That the program which the words name is refused.
+fn refused_alone<R: Files + AllocGlobal>(
+    rt: &R,
+    end: &End<'_>,
+    program: Option<NamedProgram<'_>>,
+    line: &Value,
+) -> Result<String, AllocError> {
+    let of = format!(in rt.alloc(); "program {} of {}", end.word(2), end.word(1))?;
+    refused_in(rt, of.as_str(), program, line)
 }
 
 /// Which program of a job is refused.
@@ -207,7 +219,7 @@ fn help(alloc: Global, help: Help, file: &str, form: Form, at: u64) -> Result<St
         Help::Cut => cut_loss(alloc, file, at, at),
         Help::CutOut => cut_loss(alloc, file, at, at.saturating_add(PACKET_BYTES as u64)),
         Help::Number => format!(in alloc;
-            "`program` of a job and PROGRAM of `probe` are the program_number in the file: `ffprobe {file}` shows each as \"Program\""
+            "`program` of a job and PROGRAM of `probe` and `audit` are the program_number in the file: `ffprobe {file}` shows each as \"Program\""
         ),
         Help::Recode => format!(in alloc; "code it anew: `ffmpeg -i {file} {CODE}`"),
         Help::RecodeAudio => format!(in alloc;

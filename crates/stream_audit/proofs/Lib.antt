@@ -12,3 +12,5 @@ pub mod AudioLaws
 pub mod AudioFacts
 pub mod VideoFacts
 pub mod AuditLaws
+mod OneFinding
+pub mod OneAudit

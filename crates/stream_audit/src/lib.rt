@@ -19,6 +19,7 @@ mod finding;
 mod frame_removals;
 mod judge;
 mod kept_units;
+pub mod laws;
 mod packets_of;
 mod pes_parts;
 mod read_program;
