@@ -193,7 +193,7 @@ program_stop_one file program slot a b some known (IsProgramStopped.no_clock dem
 
 -- ---- the video
 
-video_or_stop : (packets : List PesUnit) (stop : AuditStop) → IsVideoSound packets → IsVideoStopped packets stop → ⊥
+pub video_or_stop : (packets : List PesUnit) (stop : AuditStop) → IsVideoSound packets → IsVideoStopped packets stop → ⊥
 video_or_stop packets stop is (IsVideoStopped.bad_packet at found bad e) = sound_or_fault true packets (stream_faults.Pes at found) is.sound bad
 video_or_stop packets stop is (IsVideoStopped.no_sequence sound none e) = let both : None ≡ Some is.from = sym none ∙ is.sequence in cc
 
@@ -207,7 +207,7 @@ video_stop_one packets a b (IsVideoStopped.no_sequence sound none e) (IsVideoSto
 
 -- ---- the audio streams
 
-known_stream : (stop : AuditStop) (pid : ℕ) (found : StreamFault) → stop ≢ stops.OutOfMemory → stop ≡ of_stream pid found → found ≢ stream_faults.OutOfMemory
+pub known_stream : (stop : AuditStop) (pid : ℕ) (found : StreamFault) → stop ≢ stops.OutOfMemory → stop ≡ of_stream pid found → found ≢ stream_faults.OutOfMemory
 known_stream stop pid found some is wanted = some (is ∙ ap (of_stream pid) wanted)
 
 audio_or_stop : (kept : KeptUnits) (stream : AudioStream) (stop : AuditStop) → stop ≢ stops.OutOfMemory → IsAudioSound kept stream → IsAudioStopped kept stream stop → ⊥
