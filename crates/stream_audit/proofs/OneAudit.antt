@@ -36,8 +36,8 @@ use Rattle.stream_audit.specs.declared.kept_units.KeptUnits.{KeptUnits}
 use Rattle.stream_audit.specs.Audit.{AreStreamsOf, IsAudited}
 use Rattle.stream_audit.specs.Clock.{IsClockOf, clock_of, first_off}
 use Rattle.stream_audit.specs.Findings.{FindsBy}
-use Rattle.stream_audit.specs.Refusals.{AreTablesSound, IsAuditStopped, IsAudioSound, IsAudioStopped, IsClockStopped, IsFirstAudioStopped, IsProgramRead, IsProgramStopped, IsSystemFault, IsVideoSound, IsVideoStopped, of_demux, of_stream}
-use Rattle.stream_audit.specs.Removals.{AreInTime, first_time, frame_removals, unit_bytes, unit_removals}
+use Rattle.stream_audit.specs.Refusals.{AreTablesSound, IsAuditStopped, IsAudioSound, IsAudioStopped, IsClockStopped, IsFirstAudioStopped, IsProgramRead, IsProgramStopped, IsSystemFault, IsVideoSound, IsVideoStopped, stop_of_demux, stop_of_stream}
+use Rattle.stream_audit.specs.Removals.{AreInTime, first_time, frame_removals, bytes_of_units, unit_removals}
 use Rattle.stream_audit.specs.Streams.{AreAudioStreams, IsAudioStream, IsVideoStream, arrivals_by, system_stream}
 use Rattle.stream_audit.proofs.OneFinding.{one_finding}
 
@@ -82,8 +82,8 @@ system_one file map_pid a b some known (inr first) (inl other) = absurd (sound_o
 system_one file map_pid a b some known (inr first) (inr other) = places_one file map_pid a b some known first.1 other.1
 
 -- a stop that isn't want of memory is of such a fault
-known_of : (stop : AuditStop) (fault : DemuxFault) → stop ≢ stops.OutOfMemory → stop ≡ of_demux fault → Known fault
-known_of stop fault some is wanted = some (is ∙ ap of_demux wanted)
+known_of : (stop : AuditStop) (fault : DemuxFault) → stop ≢ stops.OutOfMemory → stop ≡ stop_of_demux fault → Known fault
+known_of stop fault some is wanted = some (is ∙ ap stop_of_demux wanted)
 
 -- ---- the map's PID and the clock
 
@@ -110,7 +110,7 @@ clock_stop_one file slot pid a b some known (IsClockStopped.no_pid none e) (IsCl
 clock_stop_one file slot pid a b some known (IsClockStopped.no_pid none e) (IsClockStopped.no_reference there sound lacks f) = e ∙ sym f
 clock_stop_one file slot pid a b some known (IsClockStopped.bad_packet fault there bad e) (IsClockStopped.no_pid none f) = absurd (there none)
 clock_stop_one file slot pid a b some known (IsClockStopped.bad_packet fault there bad e) (IsClockStopped.bad_packet other here worse f) =
-    e ∙ ap of_demux (places_one file pid fault other (known_of a fault some e) (known_of b other known f) bad worse) ∙ sym f
+    e ∙ ap stop_of_demux (places_one file pid fault other (known_of a fault some e) (known_of b other known f) bad worse) ∙ sym f
 clock_stop_one file slot pid a b some known (IsClockStopped.bad_packet fault there bad e) (IsClockStopped.no_reference here sound lacks f) =
     absurd (sound_or_places file pid fault (known_of a fault some e) sound bad)
 clock_stop_one file slot pid a b some known (IsClockStopped.no_reference there sound lacks e) (IsClockStopped.no_pid none f) = e ∙ sym f
@@ -168,7 +168,7 @@ program_stop_one file program slot a b some known (IsProgramStopped.long_file lo
     let few = tables.file_fits in absurd (omega (arith, long, few))
 program_stop_one file program slot a b some known (IsProgramStopped.no_program fault few refused e) (IsProgramStopped.long_file long f) = absurd (omega (arith, long, few))
 program_stop_one file program slot a b some known (IsProgramStopped.no_program fault few refused e) (IsProgramStopped.no_program other less also f) =
-    e ∙ ap of_demux (one_refusal file program [] fault other (known_of a fault some e) (known_of b other known f) refused also) ∙ sym f
+    e ∙ ap stop_of_demux (one_refusal file program [] fault other (known_of a fault some e) (known_of b other known f) refused also) ∙ sym f
 program_stop_one file program slot a b some known (IsProgramStopped.no_program fault few refused e) (IsProgramStopped.bad_tables demuxed pid other less out is bad f) =
     absurd (out_or_refused file program demuxed fault (known_of a fault some e) out refused)
 program_stop_one file program slot a b some known (IsProgramStopped.no_program fault few refused e) (IsProgramStopped.no_clock demuxed pid tables stopped) =
@@ -178,7 +178,7 @@ program_stop_one file program slot a b some known (IsProgramStopped.bad_tables d
     absurd (out_or_refused file program demuxed other (known_of b other known f) out refused)
 program_stop_one file program slot a b some known (IsProgramStopped.bad_tables demuxed pid fault few out is bad e) (IsProgramStopped.bad_tables one map_pid other less also here worse f) =
     let same : pid ≡ map_pid = map_pid_one file program pid map_pid is here in
-    e ∙ ap of_demux (system_one file map_pid fault other (known_of a fault some e) (known_of b other known f) (subst (λ (p : ℕ). IsSystemFault file p fault) same bad) worse) ∙ sym f
+    e ∙ ap stop_of_demux (system_one file map_pid fault other (known_of a fault some e) (known_of b other known f) (subst (λ (p : ℕ). IsSystemFault file p fault) same bad) worse) ∙ sym f
 program_stop_one file program slot a b some known (IsProgramStopped.bad_tables demuxed pid fault few out is bad e) (IsProgramStopped.no_clock one map_pid tables stopped) =
     absurd (tables_or_fault file program one map_pid pid fault (known_of a fault some e) tables is bad)
 program_stop_one file program slot a b some known (IsProgramStopped.no_clock demuxed pid tables stopped) (IsProgramStopped.long_file long f) =
@@ -200,15 +200,15 @@ video_or_stop packets stop is (IsVideoStopped.no_sequence sound none e) = let bo
 video_stop_one : (packets : List PesUnit) (a b : AuditStop) → IsVideoStopped packets a → IsVideoStopped packets b → a ≡ b
 video_stop_one packets a b (IsVideoStopped.bad_packet at found bad e) (IsVideoStopped.bad_packet to other worse f) =
     let same : stream_faults.Pes at found ≡ stream_faults.Pes to other = packet_fault_one true packets (stream_faults.Pes at found) (stream_faults.Pes to other) bad worse in
-    e ∙ ap (of_stream 0) same ∙ sym f
+    e ∙ ap (stop_of_stream 0) same ∙ sym f
 video_stop_one packets a b (IsVideoStopped.bad_packet at found bad e) (IsVideoStopped.no_sequence sound none f) = absurd (sound_or_fault true packets (stream_faults.Pes at found) sound bad)
 video_stop_one packets a b (IsVideoStopped.no_sequence sound none e) (IsVideoStopped.bad_packet at found bad f) = absurd (sound_or_fault true packets (stream_faults.Pes at found) sound bad)
 video_stop_one packets a b (IsVideoStopped.no_sequence sound none e) (IsVideoStopped.no_sequence also lacks f) = e ∙ sym f
 
 -- ---- the audio streams
 
-pub known_stream : (stop : AuditStop) (pid : ℕ) (found : StreamFault) → stop ≢ stops.OutOfMemory → stop ≡ of_stream pid found → found ≢ stream_faults.OutOfMemory
-known_stream stop pid found some is wanted = some (is ∙ ap (of_stream pid) wanted)
+pub known_stream : (stop : AuditStop) (pid : ℕ) (found : StreamFault) → stop ≢ stops.OutOfMemory → stop ≡ stop_of_stream pid found → found ≢ stream_faults.OutOfMemory
+known_stream stop pid found some is wanted = some (is ∙ ap (stop_of_stream pid) wanted)
 
 audio_or_stop : (kept : KeptUnits) (stream : AudioStream) (stop : AuditStop) → stop ≢ stops.OutOfMemory → IsAudioSound kept stream → IsAudioStopped kept stream stop → ⊥
 audio_or_stop kept stream stop some is (IsAudioStopped.unread found refused e) =
@@ -219,7 +219,7 @@ audio_or_stop kept stream stop some is (IsAudioStopped.late frames framed late e
 audio_stop_one : (kept : KeptUnits) (stream : AudioStream) (a b : AuditStop) → a ≢ stops.OutOfMemory → b ≢ stops.OutOfMemory → IsAudioStopped kept stream a
     → IsAudioStopped kept stream b → a ≡ b
 audio_stop_one kept stream a b some known (IsAudioStopped.unread found refused e) (IsAudioStopped.unread other also f) =
-    e ∙ ap (of_stream stream.pid) (stream_refused_one (pos (first_time kept)) stream found other (known_stream a stream.pid found some e) (known_stream b stream.pid other known f) refused also)
+    e ∙ ap (stop_of_stream stream.pid) (stream_refused_one (pos (first_time kept)) stream found other (known_stream a stream.pid found some e) (known_stream b stream.pid other known f) refused also)
     ∙ sym f
 audio_stop_one kept stream a b some known (IsAudioStopped.unread found refused e) (IsAudioStopped.late frames framed late f) =
     absurd (refused_or_has (pos (first_time kept)) stream found frames (known_stream a stream.pid found some e) refused framed)
@@ -265,13 +265,13 @@ video_stream_one file start kept pid packets a b is also =
     let made : AuditedStream = record {
       pid = pid;
       kind = _;
-      arrivals = arrivals_by (places_on file pid) (record { from = also.from; to = also.from + unit_bytes kept }) (taken true packets);
+      arrivals = arrivals_by (places_on file pid) (record { from = also.from; to = also.from + bytes_of_units kept }) (taken true packets);
       removals = unit_removals start kept;
     } in
     let one : a ≡ made = subst (λ (n : ℕ). a ≡ record {
       pid = pid;
       kind = _;
-      arrivals = arrivals_by (places_on file pid) (record { from = n; to = n + unit_bytes kept }) (taken true packets);
+      arrivals = arrivals_by (places_on file pid) (record { from = n; to = n + bytes_of_units kept }) (taken true packets);
       removals = unit_removals start kept;
     }) same is.stream_is in
     one ∙ sym also.stream_is
