@@ -1,8 +1,9 @@
 //! What is said of a program that is refused.
 
 use crate::amounts::Seconds;
-use crate::carrier::carrier_of;
+use crate::carrier::{Carrier, carrier_of};
 use crate::clock::ticks_before;
+use crate::elements::element_of;
 use crate::job_again::job_table;
 use crate::kinds::{Help, Place, kind_of};
 use crate::limits::limits_in_words;
@@ -133,6 +134,12 @@ fn place_in_stream<R: Files + AllocGlobal>(
     let Some(program) = program else {
         return Ok(plain);
     };
+    if let Form::Ps = program.form {
+        return match element_of(rt, program, is_video, at) {
+            Some(carrier) => in_element(alloc, plain.as_str(), carrier),
+            None => Ok(plain),
+        };
+    }
     let Some(stream) = program.only_stream(rt, is_video) else {
         return Ok(plain);
     };
@@ -142,6 +149,15 @@ fn place_in_stream<R: Files + AllocGlobal>(
     let packet = packet_in_words(rt, program.file, carrier.at)?;
     format!(in alloc;
         "{plain}, PES packet {pes} from 0; in the file byte {byte}, {packet}",
+        pes = carrier.pes,
+        byte = carrier.at
+    )
+}
+
+/// The place of a byte of a stream, and the packet of a program stream that carries it.
+fn in_element(alloc: Global, place: &str, carrier: Carrier) -> Result<String, AllocError> {
+    format!(in alloc;
+        "{place}, PES packet {pes} from 0; in the file byte {byte}",
         pes = carrier.pes,
         byte = carrier.at
     )
