@@ -13,7 +13,7 @@ use ts_demux::{Demuxed, PesUnit};
 /// The streams of a program whose file is a program stream. An error is why they aren't taken out, or that the file can't be read any more.
 pub(crate) fn split_again<R: Files + AllocGlobal>(
     rt: &R,
-    program: NamedProgram<'_>,
+    program: &NamedProgram<'_>,
 ) -> Result<Demuxed, SplitFault> {
     let mut shelf = FileShelf::new(rt);
     let Ok(file) = read_file(rt.alloc(), &mut shelf, program.file, FILE_BYTES_MOST as u64) else {
@@ -29,7 +29,7 @@ pub(crate) fn split_again<R: Files + AllocGlobal>(
 /// The packet that carries the byte at a place of its video, or of its audio stream where it has one alone; none where the file doesn't tell.
 pub(crate) fn element_of<R: Files + AllocGlobal>(
     rt: &R,
-    program: NamedProgram<'_>,
+    program: &NamedProgram<'_>,
     is_video: bool,
     place: u64,
 ) -> Option<Carrier> {

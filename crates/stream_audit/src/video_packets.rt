@@ -6,24 +6,24 @@ ghost use Rattle.stream_constants.specs.declared.packets.TheConstants.{PACKET_BY
 ghost use Rattle.stream_audit.specs.declared.audit_stop.AuditStop.TheVariants.{OutOfMemory};
 ghost use Rattle.stream_audit.specs.Findings.{CanBeJudged};
 ghost use Rattle.stream_audit.specs.Refusals.{IsVideoSound, IsVideoStopped};
-ghost use Rattle.stream_audit.specs.Removals.{unit_bytes};
+ghost use Rattle.stream_audit.specs.Removals.{bytes_of_units};
 ghost use Rattle.stream_audit.specs.Streams.{IsVideoOf};
 
-use crate::audit_stop::AuditStop;
+use crate::audit_stop::{AuditStop, stream_stop};
 use crate::audited_stream::AuditedStream;
 use crate::audited_video::video_stream;
 use crate::bytes_before::{bytes_before, front};
 use crate::kept_units::KeptUnits;
 use crate::pes_parts::{KeptBytes, PesParts};
-use crate::taken_pes::take_pes;
+use elementary_streams::take_packets;
 use es_units::find_sequence;
 use std::alloc::Global;
 use ts_demux::{PesUnit, Place};
 
 /// The bytes of all units.
-fn unit_bytes(kept: &KeptUnits) -> u64
-    requires { unit_bytes kept.now < 2 ^ 63 }
-    ensures { result ≡ unit_bytes kept.now }
+fn bytes_of_units(kept: &KeptUnits) -> u64
+    requires { bytes_of_units kept.now < 2 ^ 63 }
+    ensures { result ≡ bytes_of_units kept.now }
 {
     let mut bytes = 0;
     for unit in kept.units.as_slice() {
@@ -45,7 +45,7 @@ pub fn video_of(
 ) -> Result<AuditedStream, AuditStop>
     requires in_level { kept.now.vbv ≤ VBV_MOST }
     requires few_units { length kept.now.units < 2 ^ 32 }
-    requires few_bytes { unit_bytes kept.now < 2 ^ 63 }
+    requires few_bytes { bytes_of_units kept.now < 2 ^ 63 }
     requires dues_fit { All (λ unit. unit.due ≤ 2 ^ 52) kept.now.units }
     requires dues_rise { IsNonDecreasing (map (λ unit. unit.due) kept.now.units) }
     requires few_packets { length places.now ≤ 2 ^ 32 }
@@ -57,16 +57,16 @@ pub fn video_of(
     ensures judged { IfOk result CanBeJudged }
     ensures refused { IfErr result (λ stop. (stop ≡ OutOfMemory) ⊎ IsVideoStopped packets.now stop) }
 {
-    let taken = match take_pes(alloc, packets, true) {
+    let taken = match take_packets(alloc, packets, true) {
         Ok(taken) => taken,
-        Err(stop) => return Err(stop),
+        Err(fault) => return Err(stream_stop(pid, fault)),
     };
     let Some(from) = find_sequence(taken.payload.as_slice()) else {
         return Err(AuditStop::NoSequence);
     };
     let kept_bytes = KeptBytes {
         skipped: from as u64,
-        kept: unit_bytes(kept),
+        kept: bytes_of_units(kept),
     };
     let count = taken.packets.as_slice().len();
     let first = front(packets, count);

@@ -1,0 +1,4 @@
+mod Auditable
+mod AuditEnds
+mod OneStatus
+mod ReadLaws
