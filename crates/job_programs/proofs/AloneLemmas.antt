@@ -24,7 +24,7 @@ use Rattle.job_programs.proofs.ProbeLaws.{same-content}
 -- ---- what is read of a file
 
 whole : (front content : List ℕ) → front ≡ take (FILE_BYTES_MOST + 1) content → length front ≤ FILE_BYTES_MOST → front ≡ content
-whole front content is few = is-whole 0 FILE_BYTES_MOST front content refl is few
+whole front content is few = is-whole 0 FILE_BYTES_MOST front content refl is (omega (arith, few))
 
 file-refused : (number : ℕ) (front content : List ℕ) (kind : SourceKind) (at : ℕ) → front ≡ take (FILE_BYTES_MOST + 1) content
     → IsProgramRefused Ts front number [] (faults.Refused kind at) → IsProgramRefused Ts content number [] (faults.Refused kind at)

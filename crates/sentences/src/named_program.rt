@@ -9,6 +9,7 @@ use job_report::limits::{PROBE_SLOT, START_DEFAULT};
 use psi_tables::{STREAMS_MOST, Stream};
 use shelf_io::Reading;
 use shelf_kinds::FileShelf;
+use std::alloc::Global;
 use std::rt::Files;
 use toml::{Table, Value};
 use ts_demux::read_map;
@@ -102,15 +103,23 @@ impl<'a> NamedProgram<'a> {
         Some(pids)
     }
 
-    /// Its video, or its audio stream where it has one alone.
-    pub(crate) fn only_stream<R: Files + AllocGlobal>(
-        &self,
-        rt: &R,
-        is_video: bool,
-    ) -> Option<StreamPid> {
-        let streams = self.streams(rt)?;
-        match streams.as_slice() {
-            [video, ..] if is_video => Some(*video),
+    /// The stream ids of a program stream's audio streams that aren't carried; none where memory is wanting.
+    pub(crate) fn dropped_ids(&self, alloc: Global) -> Option<Vec<u16>> {
+        let mut ids = Vec::new(alloc);
+        for id in self.drop {
+            ids.push(u16::try_from(id.as_integer()?).ok()?).ok()?;
+        }
+        Some(ids)
+    }
+
+    /// Its video.
+    pub(crate) fn video<R: Files + AllocGlobal>(&self, rt: &R) -> Option<StreamPid> {
+        self.streams(rt)?.as_slice().first().copied()
+    }
+
+    /// Its audio stream, where it has one alone.
+    pub(crate) fn only_audio<R: Files + AllocGlobal>(&self, rt: &R) -> Option<StreamPid> {
+        match self.streams(rt)?.as_slice() {
             [_, audio] => Some(*audio),
             _ => None,
         }

@@ -1,8 +1,10 @@
 //! What is said of a program that is refused.
 
 use crate::amounts::Seconds;
-use crate::carrier::carrier_of;
+use crate::audio_again::refused_audio;
+use crate::carrier::{StreamPid, carrier_of};
 use crate::clock::ticks_before;
+use crate::elements::element_of;
 use crate::job_again::job_table;
 use crate::kinds::{Help, Place, kind_of};
 use crate::limits::limits_in_words;
@@ -109,7 +111,7 @@ fn refused_in<R: Files + AllocGlobal>(
 }
 
 /// Where it is wrong: the byte, and in a transport stream also the packet and how long after the file's first clock it comes. Of a byte
-/// of its video or audio it is the packet that carries it, where there is one such stream alone.
+/// of its video or audio it is the packet that carries it, where it can be told which stream that is.
 fn place<R: Files + AllocGlobal>(
     rt: &R,
     place: Place,
@@ -119,8 +121,8 @@ fn place<R: Files + AllocGlobal>(
     let alloc = rt.alloc();
     match place {
         Place::Nowhere => Ok(String::new(alloc)),
-        Place::Video => place_in_stream(rt, "its video", program, true, at),
-        Place::Audio => place_in_stream(rt, "an audio stream", program, false, at),
+        Place::Video => place_in_video(rt, program, at),
+        Place::Audio => place_in_audio(rt, program, at),
         Place::Stream => format!(in alloc; " at byte {at} of its video or an audio stream"),
         Place::File => match named_form(program) {
             Form::Ps => format!(in alloc; " at byte {at}"),
@@ -132,20 +134,51 @@ fn place<R: Files + AllocGlobal>(
     }
 }
 
-/// Where a byte of the video or of the only audio stream stands: in which PES packet of the stream, and which packet of the file.
+/// Where a byte of the video stands.
+fn place_in_video<R: Files + AllocGlobal>(
+    rt: &R,
+    program: Option<NamedProgram<'_>>,
+    at: u64,
+) -> Result<String, AllocError> {
+    let Some(program) = program else {
+        return format!(in rt.alloc(); " at byte {at} of its video");
+    };
+    if let Form::Ps = program.form {
+        return place_in_elements(rt, "its video", &program, true, at);
+    }
+    place_in_stream(rt, "its video", &program, program.video(rt), at)
+}
+
+/// Where a byte of an audio stream stands: of the one that reading again shows to be refused there, or of the only one.
+fn place_in_audio<R: Files + AllocGlobal>(
+    rt: &R,
+    program: Option<NamedProgram<'_>>,
+    at: u64,
+) -> Result<String, AllocError> {
+    let Some(program) = program else {
+        return format!(in rt.alloc(); " at byte {at} of an audio stream");
+    };
+    if let Form::Ps = program.form {
+        return place_in_elements(rt, "an audio stream", &program, false, at);
+    }
+    let Some(stream) = refused_audio(rt, &program, at) else {
+        return place_in_stream(rt, "an audio stream", &program, program.only_audio(rt), at);
+    };
+    let name = format!(in rt.alloc(); "its audio stream on PID {}", stream.pid)?;
+    place_in_stream(rt, name.as_str(), &program, Some(stream), at)
+}
+
+/// Where a byte of a stream stands: in which PES packet of the stream, and which packet of the file, where the file tells.
 fn place_in_stream<R: Files + AllocGlobal>(
     rt: &R,
     name: &str,
-    program: Option<NamedProgram<'_>>,
-    is_video: bool,
+    program: &NamedProgram<'_>,
+    stream: Option<StreamPid>,
     at: u64,
 ) -> Result<String, AllocError> {
     let alloc = rt.alloc();
     let plain = format!(in alloc; " at byte {at} of {name}")?;
-    let Some(program) = program else {
-        return Ok(plain);
-    };
-    let Some(stream) = program.only_stream(rt, is_video) else {
+    let Some(stream) = stream else {
         return Ok(plain);
     };
     let Some(carrier) = carrier_of(rt, program.file, stream, at) else {
@@ -157,6 +190,24 @@ fn place_in_stream<R: Files + AllocGlobal>(
         pes = carrier.pes,
         byte = carrier.at
     )
+}
+
+/// The same in a program stream, of the video or of the only audio stream.
+fn place_in_elements<R: Files + AllocGlobal>(
+    rt: &R,
+    name: &str,
+    program: &NamedProgram<'_>,
+    is_video: bool,
+    at: u64,
+) -> Result<String, AllocError> {
+    match element_of(rt, program, is_video, at) {
+        Some(carrier) => format!(in rt.alloc();
+            " at byte {at} of {name}, PES packet {pes} from 0; in the file byte {byte}",
+            pes = carrier.pes,
+            byte = carrier.at
+        ),
+        None => format!(in rt.alloc(); " at byte {at} of {name}"),
+    }
 }
 
 /// The packet of a file that begins at a byte, and how long after the file's first clock it comes, where that is told.
