@@ -19,7 +19,8 @@ use Rattle.audit_command.specs.AuditCommand.{kept_units}
 
 -- ---- units as removals
 
-abbrev removal_of : UnitSource → Removal
+-- a unit by its due
+abbrev pub removal_of : UnitSource → Removal
 removal_of unit = record { due = unit.due; bytes = unit.end - unit.begin }
 
 -- numbers that climb don't fall
@@ -41,7 +42,7 @@ bytes_most units short =
     (sum_by-le (λ (removal : Removal). removal.bytes) 1048576 (map removal_of units) each)
 
 -- the last time of a stream is less than a round of the clock, which is less than 2^52 ticks
-last_fits : (slot : ℕ) → last_time slot ≤ 2 ^ 52
+pub last_fits : (slot : ℕ) → last_time slot ≤ 2 ^ 52
 last_fits slot = omega arith
 
 pub auditable : (slot start number : ℕ) (content : List ℕ) (program : Program) → IsAlone slot start number content program → AreAuditable (kept_units program)

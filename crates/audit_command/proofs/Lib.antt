@@ -1,4 +1,5 @@
 mod Auditable
 mod AuditEnds
 mod OneStatus
+mod LastTimes
 mod ReadLaws

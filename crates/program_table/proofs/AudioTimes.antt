@@ -96,7 +96,7 @@ reach-of (f ∷ fs) from size (p ∷ ps) cover place within =
     inr (reach-of fs p size ps rest place within)
 
 -- the time of the frame that a place counts with, by whether it lies before the end of the first one
-abbrev time_from : Frame → List Frame → (place : ℕ) → Bool → ℤ
+abbrev pub time_from : Frame → List Frame → (place : ℕ) → Bool → ℤ
 time_from frame frames place here = option_map_or (λ (f : Frame). f.time) (cond here (Some frame) (find (λ (f : Frame). nat_lt place (f.at + f.len)) frames)) (pos 0)
 
 later : (frame : Frame) (frames : List Frame) → Rise (frame ∷ frames) → (place : ℕ) → Reach frames place → frame.time ≤ℤ time_of_byte frames place

@@ -1,5 +1,5 @@
 pub mod AudioLimits
-mod AudioTimes
+pub mod AudioTimes
 mod Examples
 pub mod Rows
 mod TableLimits

@@ -108,7 +108,7 @@ fn clock_off<R: Files + AllocGlobal>(rt: &R, found: &Found<'_>) -> Result<String
                 shown = span.ticks,
                 packets = span.packets,
                 whole = span.ticks / span.packets,
-                parts = span.ticks % span.packets * 10 / span.packets
+                parts = (span.ticks % span.packets).saturating_mul(10) / span.packets
             )?
         }
         _ => String::new(alloc),

@@ -66,7 +66,7 @@ pub(crate) fn span_to<R: Files>(rt: &R, name: &str, pid: u64, at: u64) -> Option
             return None;
         };
         if let Some((packet, first)) = first_on(&room[..count], pid) {
-            let place = from / PACKET_BYTES as u64 + packet;
+            let place = (from / PACKET_BYTES as u64).saturating_add(packet);
             return Some(ClockSpan {
                 packets: (at / PACKET_BYTES as u64).saturating_sub(place),
                 ticks: last.ticks.wrapping_add(ROUND).wrapping_sub(first.ticks) % ROUND,
@@ -78,14 +78,14 @@ pub(crate) fn span_to<R: Files>(rt: &R, name: &str, pid: u64, at: u64) -> Option
 
 /// The first clock of a PID in a piece, and its packet's number there.
 fn first_on(piece: &[u8], pid: u64) -> Option<(u64, Clock)> {
-    let mut number = 0;
+    let mut number = 0u64;
     for packet in piece.chunks_exact(PACKET_BYTES) {
         if let Some(clock) = clock_of(packet) {
             if u64::from(clock.pid) == pid {
                 return Some((number, clock));
             }
         }
-        number += 1;
+        number = number.saturating_add(1);
     }
     None
 }

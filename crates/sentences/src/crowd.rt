@@ -69,7 +69,7 @@ impl Crowd {
             }
             number = number.saturating_add(1);
         }
-        number - first
+        number.saturating_sub(first)
     }
 
     /// Adds a packet, byte by byte.

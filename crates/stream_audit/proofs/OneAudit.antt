@@ -207,10 +207,10 @@ video_stop_one packets a b (IsVideoStopped.no_sequence sound none e) (IsVideoSto
 
 -- ---- the audio streams
 
-pub known_stream : (stop : AuditStop) (pid : ℕ) (found : StreamFault) → stop ≢ stops.OutOfMemory → stop ≡ stop_of_stream pid found → found ≢ stream_faults.OutOfMemory
+known_stream : (stop : AuditStop) (pid : ℕ) (found : StreamFault) → stop ≢ stops.OutOfMemory → stop ≡ stop_of_stream pid found → found ≢ stream_faults.OutOfMemory
 known_stream stop pid found some is wanted = some (is ∙ ap (stop_of_stream pid) wanted)
 
-audio_or_stop : (kept : KeptUnits) (stream : AudioStream) (stop : AuditStop) → stop ≢ stops.OutOfMemory → IsAudioSound kept stream → IsAudioStopped kept stream stop → ⊥
+pub audio_or_stop : (kept : KeptUnits) (stream : AudioStream) (stop : AuditStop) → stop ≢ stops.OutOfMemory → IsAudioSound kept stream → IsAudioStopped kept stream stop → ⊥
 audio_or_stop kept stream stop some is (IsAudioStopped.unread found refused e) =
     refused_or_has (pos (first_time kept)) stream found is.frames (known_stream stop stream.pid found some e) refused is.framed
 audio_or_stop kept stream stop some is (IsAudioStopped.late frames framed late e) =
