@@ -114,7 +114,7 @@ pub fn plan(
     let debt = debt_of(table, fixed.len(), evaluations, premise.distortion);
     let owing = filled_first(alloc, table, &mut run, debt, premise)?;
     let best = copied(alloc, &owing.known)?;
-    let relaxation = relaxation_for(alloc, table, nodes)?;
+    let relaxation = relaxation_for(alloc, table, fixed.len(), nodes)?;
     let relaxed = relaxation.as_ref();
     let windows = found_windows(alloc, table, relaxed, &fixed, nodes)?;
     let ended = branched(alloc, table, relaxed, &mut run, best, windows, nodes)?;

@@ -12,22 +12,26 @@ ghost use Rattle.branch_plan.specs.Private.Known.{IsKnown};
 ghost use Rattle.branch_plan.specs.Private.Root.{BeatEachPair};
 
 use crate::known::Known;
-use crate::limits::NODES_WITH_MANY_WINDOWS_MOST;
+use crate::limits::{NODES_WITH_MANY_WINDOWS_MOST, RELAXED_MOST};
 use dual_bounds::{Fixed, Windows, bound_of, window_value, windows_of};
 use list_types::OutOfMemory;
-use multiplier_search::{LinearRelaxation, best_single, best_window, improve};
+use multiplier_search::{
+    LinearRelaxation, best_single, best_window, improve, relaxation as relaxation_of,
+};
 use std::alloc::Global;
 use version_table::Table;
 
-/// The relaxation of a table, where a search of so many nodes asks it. Fails only for want of memory.
+/// The relaxation of a table of so many units, where a search of so many nodes asks it below the root too. Fails only for want of
+/// memory.
 pub(crate) fn relaxation_for(
     alloc: Global,
     table: &Table,
+    units: usize,
     nodes: u32,
 ) -> Result<Option<LinearRelaxation>, OutOfMemory>
     requires valid { IsValidTable table.now }
 {
-    if nodes > NODES_WITH_MANY_WINDOWS_MOST {
+    if nodes > NODES_WITH_MANY_WINDOWS_MOST || units as u64 > RELAXED_MOST {
         return Ok(None);
     }
     Ok(Some(LinearRelaxation::new(alloc, table)?))
@@ -58,7 +62,7 @@ pub(crate) fn root_windows(
     }
     match relaxation {
         Some(relaxation) => relaxation.windows(alloc, table, fixed, &start),
-        None => Ok(start),
+        None => relaxation_of(alloc, table, fixed, &start),
     }
 }
 

@@ -1,6 +1,6 @@
 ghost use Rattle.std.specs.Prelude.{◌≡◌, ◌<◌, ◌≤◌, ◌^◌, All, IfOk, MatchOption, length, slice_index};
 ghost use Rattle.std.specs.List.{Contains};
-ghost use Rattle.std.specs.List.Sorted.{IsNonDecreasing};
+ghost use Rattle.std.specs.List.Sorted.{IsNonDecreasing, IsStrictlyIncreasing};
 ghost use Rattle.cost_sweep.specs.Places.{IsPlaceBehind};
 ghost use Rattle.cost_sweep.specs.Private.Before.{IsPlaceBefore};
 
@@ -8,17 +8,18 @@ use crate::step::CostStep;
 use list_types::OutOfMemory;
 use std::alloc::Global;
 
-/// The prices from which on steps count, in rising order. Fails only for want of memory.
+/// The prices from which on steps count, each once, in rising order. Fails only for want of memory.
 pub fn prices_of(alloc: Global, steps: &[CostStep]) -> Result<Vec<u64>, OutOfMemory>
-    ensures rise { IfOk result (λ prices. IsNonDecreasing prices.items) }
+    ensures rise { IfOk result (λ prices. IsStrictlyIncreasing prices.items) }
     ensures all { IfOk result (λ prices. All (λ step. Contains prices.items step.from) steps.now) }
-    ensures count { IfOk result (λ prices. length prices.items ≡ length steps.now) }
+    ensures count { IfOk result (λ prices. length prices.items ≤ length steps.now) }
 {
     let mut prices = Vec::new(alloc);
     for step in steps {
         prices.push(step.from)?;
     }
     prices.sort_unstable();
+    prices.dedup();
     Ok(prices)
 }
 

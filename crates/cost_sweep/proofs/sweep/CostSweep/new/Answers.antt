@@ -4,7 +4,7 @@ use Rattle.std.proofs.lemmas.List.Sorted.{IsNonDecreasingBy-from_sort_by_key}
 use Rattle.cost_sweep.specs.declared.step.CostStep.{CostStep}
 use Rattle.cost_sweep.specs.Sweep.{counted}
 use Rattle.cost_sweep.proofs.Holding.{holds-none}
-use Rattle.cost_sweep.proofs.Prices.{small-moved}
+use Rattle.cost_sweep.proofs.Prices.{in-order, small-moved}
 use Rattle.cost_sweep.proofs.sweep.CostSweep.new.Goals as goal
 
 pub returns-clause-sweep : goal.returns-clause-sweep
@@ -15,7 +15,7 @@ returns-clause-sweep c =
     record {
       order = IsNonDecreasingBy-from_sort_by_key (λ (s : CostStep). s.due) _ c.in_ok-sort_by_key.ensures.sorted (λ a r q k. search rules);
       small = small-moved c.args.steps.items c.sort_by_key.new.self.items c.sort_by_key.ensures.permutation c.requires;
-      prices = c.in_ok-prices.ensures.rise;
+      prices = in-order prices c.in_ok-prices.ensures.rise;
       all_prices = subst (λ (x : List CostStep). All (λ (s : CostStep). Contains prices s.from) x) c.as_slice.ensures.value c.in_ok-prices.ensures.all;
       within = omega arith;
       rises = holds-none prices (λ (s : CostStep). s.rise) c.in_ok-rises.rises height c.in_ok-rises.ensures.height c.height_for-height.ensures.few room
