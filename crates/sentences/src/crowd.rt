@@ -9,6 +9,9 @@ use stream_constants::packets::PACKET_BYTES;
 /// How many bytes are read at once: whole packets.
 const PIECE_BYTES: usize = 348 * PACKET_BYTES;
 
+/// How many pieces are read at most: in the shortest slots a twentieth of a second takes four.
+const PIECES_MOST: u64 = 8;
+
 /// Subticks that are looked through before the instant: in a twentieth of a second a buffer of 512 bytes empties at each rate.
 const BEFORE: u64 = SUBTICKS_PER_SECOND / 20;
 
@@ -45,7 +48,10 @@ pub(crate) fn crowd_in<R: Files>(
         at,
         held: 0,
     };
-    while packet <= last {
+    for _ in 0..PIECES_MOST {
+        if packet > last {
+            break;
+        }
         let from = packet.saturating_mul(PACKET_BYTES as u64);
         let Ok(count) = shelf.read(file, from, &mut room) else {
             return None;
