@@ -1,5 +1,5 @@
 -- Words that are those of commands, and words that aren't.
-use Rattle.std.proofs.Common.{◌≡◌, ◌<◌, ◌^◌, ℕ, true, List, [], ◌∷◌, length, get_or, decimal, codes, refl, sym, ap, ◌∙◌, lit<, lit≤, arith}
+use Rattle.std.proofs.Common.{◌≡◌, ◌<◌, ◌≤◌, ◌^◌, ℕ, true, List, [], ◌∷◌, length, get_or, decimal, codes, refl, sym, ap, ◌∙◌, lit<, lit≤, arith}
 use Rattle.std.specs.Str.{all_ascii_digits}
 use Rattle.std.specs.Str.Parse.{digits_value}
 use Rattle.std.proofs.lemmas.Fmt.{decimal_digit, decimal_injective, decimal_is_IsNumeral, decimal-digits_value}
