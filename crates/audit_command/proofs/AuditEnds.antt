@@ -22,7 +22,7 @@ use Rattle.command_words.specs.Task.{AsksOnly}
 use Rattle.command_words.proofs.Counted.{asks_one}
 use Rattle.command_words.proofs.Performed.{performs_uncalled, wants_uncalled}
 use Rattle.audit_command.specs.AuditCommand.{HoldsAudited, IsAuditOf, IsAuditRefused, IsStoppedFor, audit_task, kept_units, refusal_of}
-use Rattle.audit_command.specs.Private.Audited.{EndsByAudit, clean, found, stopped}
+use Rattle.audit_command.specs.Private.Audited.{EndsByAudit, EndsByFinding, EndsByStop, clean, found, stopped}
 
 -- what a shelf holds, its told files hold
 on_held : (told : Option Files) (file : List ℕ) (number slot : ℕ) (content : List ℕ) (program : Program) (held : Files) → told ≡ Some held
@@ -81,6 +81,18 @@ audit_ends file number slot facts content program (Some ended) holds (found find
     found_ends file number slot facts content program ended finding holds audited ends
 audit_ends file number slot facts content program (Some ended) holds (stopped stop is (fault, first, says, ends)) =
     stopped_ends file number slot facts content program ended stop fault holds is first says ends
+
+-- ---- by what the audit answers
+
+pub found_so : (slot number : ℕ) (content : List ℕ) (program : Program) (finding : Finding) (result : Option Ended) → IsAudited content number slot (kept_units program) (Some finding)
+    → IfSome result (EndsByFinding finding) → IfSome result (EndsByAudit slot number content program)
+found_so slot number content program finding None audited so = tt
+found_so slot number content program finding (Some ended) audited so = found finding audited so
+
+pub stopped_so : (slot number : ℕ) (content : List ℕ) (program : Program) (stop : AuditStop) (result : Option Ended) → IsAuditStopped content number slot (kept_units program) stop
+    → IfSome result (EndsByStop stop) → IfSome result (EndsByAudit slot number content program)
+stopped_so slot number content program stop None is so = tt
+stopped_so slot number content program stop (Some ended) is so = stopped stop is so
 
 -- `audit` asks for FILE alone
 pub asks_file : (file : List ℕ) (number slot : ℕ) (told : Option Files) (old new : List ℕ → ℕ) → AsksUpTo file (FILE_BYTES_MOST + 1) old new

@@ -53,6 +53,11 @@ no_later x y z less most = omega (arith, ints, less, most)
 same_time : (x y : ℤ) → y ≡ x → x ≤ℤ y
 same_time x y is = omega (arith, ints, is)
 
+-- where the first of some spans ends
+abbrev end_of_first : List (ℕ × ℕ) → ℕ
+end_of_first [] = 0
+end_of_first (span ∷ spans) = span.1
+
 -- frames that cover so many bytes: none is later than the one that the last byte counts with
 none_later : (frames : List Frame) (from size : ℕ) (places : List ℕ) → Rise frames → All (λ at. at < size) places → ends_of frames ≡ spans from places size → 0 < size
     → All (λ frame. frame.time ≤ℤ time_of_byte frames (size - 1)) frames
@@ -62,12 +67,12 @@ none_later (f ∷ []) from size (p ∷ []) rise within cover some = let many : 1
 none_later (f ∷ []) from size (p ∷ q ∷ ps) rise within cover some =
     let many : 1 ≡ suc (suc (length (spans q ps size))) = ap length cover in absurd (omega (arith, many))
 none_later (f ∷ []) from size [] rise within cover some =
-    let ends : f.at + f.len ≡ size = let one : (f.at, f.at + f.len) ∷ [] ≡ (from, size) ∷ [] = cover in cc in
+    let ends : f.at + f.len ≡ size = ap end_of_first cover in
     All-cons (λ (frame : Frame). frame.time ≤ℤ time_of_byte (f ∷ []) (size - 1)) f []
     (same_time f.time (time_of_byte (f ∷ []) (size - 1)) (counts_here f [] (size - 1) (omega (arith, ends, some))))
     (All-nil (λ (frame : Frame). frame.time ≤ℤ time_of_byte (f ∷ []) (size - 1)))
 none_later (f ∷ g ∷ fs) from size (p ∷ ps) rise within cover some =
-    let ends : f.at + f.len ≡ p = let one : (f.at, f.at + f.len) ∷ ends_of (g ∷ fs) ≡ (from, p) ∷ spans p ps size = cover in cc in
+    let ends : f.at + f.len ≡ p = ap end_of_first cover in
     let before : p < size = All-head (λ (at : ℕ). at < size) p ps within in
     let rest : All (λ (frame : Frame). frame.time ≤ℤ time_of_byte (g ∷ fs) (size - 1)) (g ∷ fs) =
     none_later (g ∷ fs) p size ps rise.1 (All-tail (λ (at : ℕ). at < size) p ps within) (ap (drop 1) cover) some in
@@ -106,31 +111,31 @@ packet_ends size at packet [] k zero some count end =
 packet_ends size at packet (x ∷ xs) k zero some count end = end
 packet_ends size at packet rest k (suc n) some count end = packet_ends size at packet rest (k + 1) n some (omega (arith, count)) end
 
+-- the places of the pieces of a packet, and of those behind it
+abbrev pieces_behind : (at : ℕ) → PlacedPacket → (n : ℕ) → List (PlacedPacket × ℕ × ℕ) → List (PlacedPacket × ℕ × ℕ)
+pieces_behind at packet n rest = map (λ (from : ℕ). (packet, at, from)) (map (λ (j : ℕ). 184 * j) (range_with_len 0 n)) ++ rest
+
+one_packet : (size at : ℕ) (packet : PlacedPacket) (rest : List (PlacedPacket × ℕ × ℕ)) (n : ℕ) → packet.from < packet.end → n ≡ (packet_size packet + 183) / 184
+    → EndsBehind size packet.end rest → EndsAt size (pieces_behind at packet n rest)
+one_packet size at packet rest zero some is end = absurd (omega (arith, is, some))
+one_packet size at packet rest (suc n) some is end = packet_ends size at packet rest 0 n some (omega (arith, is)) end
+
 ends_of_packets : (size at from : ℕ) (p : PesUnit) (ps : List PesUnit) → All HasPayload (p ∷ ps) → from + length (joined (p ∷ ps)) ≡ size
     → EndsAt size (placed_pieces at (placed_from from (p ∷ ps)))
-ends_of_packets size at from p ps all fits = by_count ((packet_size packet + 183) / 184) refl
-  where
-    packet : PlacedPacket
-    packet = placed_at from p
-
-    some : HasPayload p
-    some = All-head HasPayload p ps all
-
-    both : length (joined (p ∷ ps)) ≡ length (pes_payload_of p) + length (joined ps)
-    both = length-append (pes_payload_of p) (joined ps)
-
-    later : (qs : List PesUnit) → All HasPayload qs → from + (length (pes_payload_of p) + length (joined qs)) ≡ size
-        → EndsBehind size packet.end (placed_pieces (at + packet_size packet) (placed_from (from + length (pes_payload_of p)) qs))
-    later [] each is = omega (arith, is)
-    later (q ∷ qs) each is =
-        behind size packet.end _ (ends_of_packets size (at + packet_size packet) (from + length (pes_payload_of p)) q qs each (omega (arith, is)))
-
-    by_count : (n : ℕ) → n ≡ (packet_size packet + 183) / 184
-        → EndsAt size (map (λ (from : ℕ). (packet, at, from)) (map (λ (j : ℕ). 184 * j) (range_with_len 0 n)) ++ placed_pieces (at + packet_size packet) (placed_from (from + length (pes_payload_of p)) ps))
-    by_count zero is = absurd (omega (arith, is, some))
-    by_count (suc n) is =
-        packet_ends size at packet (placed_pieces (at + packet_size packet) (placed_from (from + length (pes_payload_of p)) ps)) 0 n (omega (arith, some)) is
-        (later ps (All-tail HasPayload p ps all) (omega (arith, both, fits)))
+ends_of_packets size at from p [] all fits =
+    let packet : PlacedPacket = placed_at from p in
+    let some : HasPayload p = All-head HasPayload p [] all in
+    let both : length (joined (p ∷ [])) ≡ length (pes_payload_of p) + length (joined []) = length-append (pes_payload_of p) (joined []) in
+    let end : packet.end ≡ size = omega (arith, both, fits) in
+    one_packet size at packet [] ((packet_size packet + 183) / 184) (omega (arith, some)) refl end
+ends_of_packets size at from p (q ∷ qs) all fits =
+    let packet : PlacedPacket = placed_at from p in
+    let some : HasPayload p = All-head HasPayload p (q ∷ qs) all in
+    let both : length (joined (p ∷ q ∷ qs)) ≡ length (pes_payload_of p) + length (joined (q ∷ qs)) = length-append (pes_payload_of p) (joined (q ∷ qs)) in
+    let next = placed_pieces (at + packet_size packet) (placed_from (from + length (pes_payload_of p)) (q ∷ qs)) in
+    let rest : EndsAt size next =
+    ends_of_packets size (at + packet_size packet) (from + length (pes_payload_of p)) q qs (All-tail HasPayload p (q ∷ qs) all) (omega (arith, both, fits)) in
+    one_packet size at packet next ((packet_size packet + 183) / 184) (omega (arith, some)) refl (behind size packet.end next rest)
 
 -- so one piece is gone when the last byte is
 abbrev IsGoneBy : (start : ℕ) (earliest time : ℤ) (most : ℕ) → Type 0
@@ -160,7 +165,7 @@ by_packets start earliest frames [] pieces first most places rise within begun c
 by_packets start earliest frames (p ∷ ps) pieces first most places rise within begun cover payloads are gones =
     let size = length (joined (p ∷ ps)) in
     let last : IsGoneBy start earliest (time_of_byte frames (size - 1)) most =
-    last_gone start earliest frames size most (placed_pieces 0 (placed_from 0 (p ∷ ps))) pieces are gones (ends_of_packets size 0 0 p ps payloads refl) in
+    last_gone start earliest frames size most (placed_pieces 0 (placed_from 0 (p ∷ ps))) pieces are gones (ends_of_packets size 0 0 p ps payloads (omega arith)) in
     let times : All (λ (frame : Frame). frame.time ≤ℤ time_of_byte frames (size - 1)) frames =
     none_later frames 0 size (drop 1 places) rise (all_but_first places size within) cover
     (omega (arith, begun)) in
