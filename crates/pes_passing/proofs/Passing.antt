@@ -13,13 +13,13 @@ use Rattle.ts_demux.proofs.PassSteps.{next_count, next_piece, next_within, passe
 use Rattle.ts_demux.proofs.Passing.{passes_none}
 use Rattle.pes_passing.specs.declared.open_packet.OpenPacket.{OpenPacket}
 use Rattle.pes_passing.specs.declared.passing_packets.PassingPackets.{PassingPackets}
-use Rattle.pes_passing.specs.PassingPackets.{AreAllPackets, AreSplit, count_of, Goes, HasPassed, open_of, pids_of, StandsIn}
+use Rattle.pes_passing.specs.PassingPackets.{AreSplit, count_of, Goes, HasPassed, open_of, pids_of, StandsAtEnd, StandsIn}
 use Rattle.pes_passing.specs.Private.OpenPacket.{ended_behind, Holds}
 use Rattle.pes_passing.proofs.Standing.{all_at_end, stands_turned}
 
 -- nothing has passed
-pub none_passed : (left : Option (List ℕ)) (most : ℕ) (packets : PassingPackets) → most ≤ source_bytes_most → packets.read ≡ 0 → packets.open.held ≡ None → packets.open.begun ≡ None
-    → packets.open.count ≡ 0 → (pid : ℕ) → slice_get (pids_of packets) packets.index ≡ Some pid → ((file : List ℕ) → StandsAt file 0 packets.packets) → HasPassed left left most most [] [] packets
+pub none_passed : (left : Option (List ℕ)) (most : ℕ) (packets : PassingPackets) → most ≤ source_bytes_most → packets.read ≡ 0 → packets.pes.held ≡ None → packets.pes.begun ≡ None
+    → packets.pes.count ≡ 0 → (pid : ℕ) → slice_get (pids_of packets) packets.index ≡ Some pid → ((file : List ℕ) → StandsAt file 0 packets.packets) → HasPassed left left most most [] [] packets
 none_passed left most packets few read held begun count pid pid_is stand = record {
   most_few = few;
   seen = [];
@@ -39,8 +39,8 @@ none_passed left most packets few read held begun count pid pid_is stand = recor
 
 -- the packet that is open is held
 pub turned_passed : (left left_after : Option (List ℕ)) (most most_after : ℕ) (held : List ℕ) (ended : List PesUnit) (old : PassingPackets) (after : OpenPacket)
-    → open_of after ≡ open_of old.open → after.count ≡ old.open.count → HasPassed left left_after most most_after held ended old
-    → HasPassed left left_after most most_after held ended (record { packets = old.packets; index = old.index; read = old.read; open = after })
+    → open_of after ≡ open_of old.pes → after.count ≡ old.pes.count → HasPassed left left_after most most_after held ended old
+    → HasPassed left left_after most most_after held ended (record { packets = old.packets; index = old.index; read = old.read; pes = after })
 turned_passed left left_after most most_after held ended old after open_is count_is was = record {
   most_few = was.most_few;
   seen = was.seen;
@@ -51,7 +51,7 @@ turned_passed left left_after most most_after held ended old after open_is count
 
 -- what has passed is no more than a source gives
 pub within : (left left_after : Option (List ℕ)) (most most_after : ℕ) (held : List ℕ) (ended : List PesUnit) (packets : PassingPackets)
-    → HasPassed left left_after most most_after held ended packets → (188 * packets.read ≤ source_bytes_most) × (packets.open.count ≤ packets.read)
+    → HasPassed left left_after most most_after held ended packets → (188 * packets.read ≤ source_bytes_most) × (packets.pes.count ≤ packets.read)
 within left left_after most most_after held ended packets was =
     let size = passes_size left left_after most most_after [] was.seen held was.passes in
     let stands = was.every [] in (omega (arith, size, was.most_few, was.count), omega (arith, stands.count_is, stands.few))
@@ -93,8 +93,8 @@ refused_early left mid after most most_mid most_after held held_after ended old 
 
 -- the source has ended
 pub all_passed : (left mid after : Option (List ℕ)) (most most_mid most_after : ℕ) (held held_after : List ℕ) (ended : List PesUnit) (packets : PassingPackets)
-    → HasPassed left mid most most_mid held ended packets → Passes mid after most_mid most_after held [] held_after → length held_after < 188 → IsAtEnd after → packets.open.begun ≡ None
-    → IsWhole left after most most_after held_after (λ file. AreAllPackets file (pids_of packets) packets.index ended packets.open.held)
+    → HasPassed left mid most most_mid held ended packets → Passes mid after most_mid most_after held [] held_after → length held_after < 188 → IsAtEnd after → packets.pes.begun ≡ None
+    → IsWhole left after most most_after held_after (λ file. StandsAtEnd file ended packets)
 all_passed left mid after most most_mid most_after held held_after ended packets was filled short end turned = record {
   seen = was.seen;
   passes = passes_filled left mid after most most_mid most_after was.seen held held_after was.passes filled;
@@ -104,6 +104,6 @@ all_passed left mid after most most_mid most_after held held_after ended packets
 
 -- a packet that has ended is held
 pub one_ended : (left left_after : Option (List ℕ)) (most most_after : ℕ) (held : List ℕ) (ended : List PesUnit) (packets : PassingPackets) (last : Option PesUnit)
-    → packets.open.held ≡ last → IsSome last → HasPassed left left_after most most_after held (ended_behind true ended last) packets → Goes true left left_after most most_after held ended packets
-one_ended left left_after most most_after held ended packets None held_is some passed = absurd some
+    → packets.pes.held ≡ last → IsSome last → HasPassed left left_after most most_after held (ended_behind true ended last) packets → Goes true left left_after most most_after held ended packets
+one_ended left left_after most most_after held ended packets None held_is some passed = absurd (let bad : false ≡ true = some in cc)
 one_ended left left_after most most_after held ended packets (Some packet) held_is some passed = (packet, held_is, passed)

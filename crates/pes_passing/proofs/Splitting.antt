@@ -32,16 +32,16 @@ there (packet ∷ packets) = ap (λ (more : List PesUnit). packet ∷ more) (the
 
 -- ---- one payload
 
-split_start : (xs : List CarriedPayload) (x : CarriedPayload) (ended : List PesUnit) (open : Option PesUnit) → is_start x.payload ≡ true → AreSplit (units_of xs) ended open
-    → AreSplit (units_of (xs ++ x ∷ [])) (ended ++ option_to_list open) (Some (begun_packet x.at x.payload.bytes))
-split_start xs x ended open start split = record {
+split_start : (xs : List CarriedPayload) (x : CarriedPayload) (ended : List PesUnit) (last : Option PesUnit) → is_start x.payload ≡ true → AreSplit (units_of xs) ended last
+    → AreSplit (units_of (xs ++ x ∷ [])) (ended ++ option_to_list last) (Some (begun_packet x.at x.payload.bytes))
+split_start xs x ended last start split = record {
   packets = ap (map unit_of) (gathered_start xs x start) ∙ map-append unit_of (gathered xs) (begun_in x ∷ [])
       ∙ ap (λ (packets : List PesUnit). packets ++ begun_packet x.at x.payload.bytes ∷ []) split.packets;
   none = λ no. absurd (let bad : Some (begun_packet x.at x.payload.bytes) ≡ None = no in cc);
 }
 
-split_on : (xs : List CarriedPayload) (x : CarriedPayload) (ended : List PesUnit) (open : Option PesUnit) → is_start x.payload ≡ false → AreSplit (units_of xs) ended open
-    → AreSplit (units_of (xs ++ x ∷ [])) ended (option_map (with_payload x.payload.bytes) open)
+split_on : (xs : List CarriedPayload) (x : CarriedPayload) (ended : List PesUnit) (last : Option PesUnit) → is_start x.payload ≡ false → AreSplit (units_of xs) ended last
+    → AreSplit (units_of (xs ++ x ∷ [])) ended (option_map (with_payload x.payload.bytes) last)
 split_on xs x ended None start split =
     let none : ended ≡ [] = split.none refl in
     let empty : gathered xs ≡ [] = sym (back (gathered xs)) ∙ ap (map as_gathered) (split.packets ∙ append-nil ended ∙ none) in
@@ -61,17 +61,17 @@ split_on xs x ended (Some packet) start split =
     }
 
 -- one that isn't empty
-pub split_more : (xs : List CarriedPayload) (x : CarriedPayload) (ended : List PesUnit) (open : Option PesUnit) → 0 < length x.payload.bytes → AreSplit (units_of xs) ended open
-    → AreSplit (units_of (xs ++ x ∷ [])) (cond x.payload.start (ended ++ option_to_list open) ended)
-        (cond x.payload.start (Some (begun_packet x.at x.payload.bytes)) (option_map (with_payload x.payload.bytes) open))
-split_more xs x ended open some split = by_start x.payload.start refl (nat_lt 0 (length x.payload.bytes)) refl
+pub split_more : (xs : List CarriedPayload) (x : CarriedPayload) (ended : List PesUnit) (last : Option PesUnit) → 0 < length x.payload.bytes → AreSplit (units_of xs) ended last
+    → AreSplit (units_of (xs ++ x ∷ [])) (cond x.payload.start (ended ++ option_to_list last) ended)
+        (cond x.payload.start (Some (begun_packet x.at x.payload.bytes)) (option_map (with_payload x.payload.bytes) last))
+split_more xs x ended last some split = by_start x.payload.start refl (nat_lt 0 (length x.payload.bytes)) refl
   where
     by_start : (start : Bool) → x.payload.start ≡ start → (full : Bool) → nat_lt 0 (length x.payload.bytes) ≡ full
-        → AreSplit (units_of (xs ++ x ∷ [])) (cond start (ended ++ option_to_list open) ended)
-            (cond start (Some (begun_packet x.at x.payload.bytes)) (option_map (with_payload x.payload.bytes) open))
+        → AreSplit (units_of (xs ++ x ∷ [])) (cond start (ended ++ option_to_list last) ended)
+            (cond start (Some (begun_packet x.at x.payload.bytes)) (option_map (with_payload x.payload.bytes) last))
     by_start start start_is false full_is = absurd (grind (arith, nat_tests))
-    by_start true start_is true full_is = split_start xs x ended open (ap (λ (b : Bool). b && nat_lt 0 (length x.payload.bytes)) start_is ∙ full_is) split
-    by_start false start_is true full_is = split_on xs x ended open (ap (λ (b : Bool). b && nat_lt 0 (length x.payload.bytes)) start_is) split
+    by_start true start_is true full_is = split_start xs x ended last (ap (λ (b : Bool). b && nat_lt 0 (length x.payload.bytes)) start_is ∙ full_is) split
+    by_start false start_is true full_is = split_on xs x ended last (ap (λ (b : Bool). b && nat_lt 0 (length x.payload.bytes)) start_is) split
 
 -- ---- what is held and counted
 
@@ -106,17 +106,17 @@ counted start old after ends ended is counts count = by_case start old.held refl
 
 -- ---- how many bytes they have
 
-open_size : (open : Option PesUnit) (payload : List ℕ) → size_of (option_to_list (option_map (with_payload payload) open)) ≤ size_of (option_to_list open) + length payload
+open_size : (last : Option PesUnit) (payload : List ℕ) → size_of (option_to_list (option_map (with_payload payload) last)) ≤ size_of (option_to_list last) + length payload
 open_size None payload = omega arith
 open_size (Some packet) payload =
     omega (arith, sum_by-cons (λ (p : PesUnit). length p.bytes) (with_payload payload packet) [], sum_by-cons (λ (p : PesUnit). length p.bytes) packet [], length-append packet.bytes payload)
 
-pub sized : (start : Bool) (at : ℕ) (payload : List ℕ) (ended : List PesUnit) (open : Option PesUnit)
-    → size_of (cond start (ended ++ option_to_list open) ended ++ option_to_list (cond start (Some (begun_packet at payload)) (option_map (with_payload payload) open)))
-    ≤ size_of (ended ++ option_to_list open) + length payload
-sized true at payload ended open =
-    omega (arith, sum_by-append (λ (p : PesUnit). length p.bytes) (ended ++ option_to_list open) (begun_packet at payload ∷ []),
+pub sized : (start : Bool) (at : ℕ) (payload : List ℕ) (ended : List PesUnit) (last : Option PesUnit)
+    → size_of (cond start (ended ++ option_to_list last) ended ++ option_to_list (cond start (Some (begun_packet at payload)) (option_map (with_payload payload) last)))
+    ≤ size_of (ended ++ option_to_list last) + length payload
+sized true at payload ended last =
+    omega (arith, sum_by-append (λ (p : PesUnit). length p.bytes) (ended ++ option_to_list last) (begun_packet at payload ∷ []),
     sum_by-cons (λ (p : PesUnit). length p.bytes) (begun_packet at payload) [])
-sized false at payload ended open =
-    omega (arith, sum_by-append (λ (p : PesUnit). length p.bytes) ended (option_to_list (option_map (with_payload payload) open)),
-    sum_by-append (λ (p : PesUnit). length p.bytes) ended (option_to_list open), open_size open payload)
+sized false at payload ended last =
+    omega (arith, sum_by-append (λ (p : PesUnit). length p.bytes) ended (option_to_list (option_map (with_payload payload) last)),
+    sum_by-append (λ (p : PesUnit). length p.bytes) ended (option_to_list last), open_size last payload)

@@ -30,11 +30,11 @@ read_of packets = packets.read
 
 -- how many PES packets have ended
 abbrev pub count_of : PassingPackets → ℕ
-count_of packets = packets.open.count
+count_of packets = packets.pes.count
 
 -- the PES packet that has ended last, or is open
 abbrev pub held_of : PassingPackets → Option PesUnit
-held_of packets = packets.open.held
+held_of packets = packets.pes.held
 
 -- a PES packet of which one payload has come
 abbrev pub begun_packet : (at : ℕ) → List ℕ → PesUnit
@@ -60,9 +60,9 @@ abbrev pub size_of : List PesUnit → ℕ
 size_of packets = sum_by (λ packet. length packet.bytes) packets
 
 -- All of some PES packets have ended, but for an open one behind them. Only where there are none is none open.
-pub record AreSplit (all ended : List PesUnit) (open : Option PesUnit) : Type 0 where
-  pub packets : all ≡ ended ++ option_to_list open
-  pub none : open ≡ None → ended ≡ []
+pub record AreSplit (all ended : List PesUnit) (last : Option PesUnit) : Type 0 where
+  pub packets : all ≡ ended ++ option_to_list last
+  pub none : last ≡ None → ended ≡ []
 
 -- It stands behind the packets of a file that were read, none of which is refused, and these PES packets have ended there. They are no more than those, and
 -- have no more bytes.
@@ -71,10 +71,10 @@ pub record StandsIn (file : List ℕ) (ended : List PesUnit) (packets : PassingP
   pub sound : (n : ℕ) (fault : DemuxFault) → n < packets.read → IsStreamFault file (pids_of packets) n fault → ⊥
   pub pid : ℕ
   pub pid_is : slice_get (pids_of packets) packets.index ≡ Some pid
-  pub split : AreSplit (packets_before file pid packets.read) ended (open_of packets.open)
+  pub split : AreSplit (packets_before file pid packets.read) ended (open_of packets.pes)
   pub count_is : count_of packets ≡ length ended
   pub few : length ended ≤ packets.read
-  pub few_bytes : size_of (ended ++ option_to_list (open_of packets.open)) ≤ PACKET_BYTES * packets.read
+  pub few_bytes : size_of (ended ++ option_to_list (open_of packets.pes)) ≤ PACKET_BYTES * packets.read
 
 -- ---- what has passed of a source
 
@@ -86,17 +86,18 @@ pub record HasPassed (left left_after : Option (List ℕ)) (most most_after : �
   pub count : length seen ≡ PACKET_BYTES * packets.read
   pub every : (more : List ℕ) → StandsIn (seen ++ more) ended packets
 
--- No packet of a file on these PIDs is refused, and all PES packets of one of them are those that have ended, and a last one.
-pub record AreAllPackets (file pids : List ℕ) (index : ℕ) (ended : List PesUnit) (last : Option PesUnit) : Type 0 where
-  pub sound : AreStreamsSound file pids
+-- It stands behind the last packet of a file, of which none is refused, and all PES packets of the stream are those that have ended, and a last one.
+pub record StandsAtEnd (file : List ℕ) (ended : List PesUnit) (packets : PassingPackets) : Type 0 where
+  pub read_is : packets.read ≡ piece_count file
+  pub sound : AreStreamsSound file (pids_of packets)
   pub pid : ℕ
-  pub pid_is : slice_get pids index ≡ Some pid
-  pub split : AreSplit (packets_before file pid (piece_count file)) ended last
-  pub few_bytes : size_of (ended ++ option_to_list last) ≤ length file
+  pub pid_is : slice_get (pids_of packets) packets.index ≡ Some pid
+  pub split : AreSplit (packets_before file pid (piece_count file)) ended (held_of packets)
+  pub count_is : count_of packets ≡ length ended
+  pub few_bytes : size_of (ended ++ option_to_list (held_of packets)) ≤ PACKET_BYTES * packets.read
 
--- what comes of a step: one PES packet more has ended, which is held; or the source has, and the open one is the last
+-- what comes of a step: one PES packet more has ended, which is held; or the source has, and the held one is the last
 abbrev pub Goes : (more : Bool) → (left left_after : Option (List ℕ)) → (most most_after : ℕ) → (held : List ℕ) → (ended : List PesUnit) → PassingPackets → Type 0
 Goes true left left_after most most_after held ended packets =
     (packet : PesUnit) × (held_of packets ≡ Some packet) × HasPassed left left_after most most_after held (ended ++ packet ∷ []) packets
-Goes false left left_after most most_after held ended packets =
-    IsWhole left left_after most most_after held (λ file. AreAllPackets file (pids_of packets) (index_of packets) ended (held_of packets))
+Goes false left left_after most most_after held ended packets = IsWhole left left_after most most_after held (λ file. StandsAtEnd file ended packets)

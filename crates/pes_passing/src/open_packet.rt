@@ -38,7 +38,7 @@ impl OpenPacket {
 
     /// Holds the packet that is open, in place of one that has ended.
     pub fn turn(&mut self) -> Result<(), DemuxFault>
-        ensures open { OnOk result (self.new.held ≡ open_of self.old) }
+        ensures last { OnOk result (self.new.held ≡ open_of self.old) }
         ensures begun { OnOk result (self.new.begun ≡ None) }
         ensures count { OnOk result (self.new.count ≡ self.old.count) }
         ensures memory { IfErr result (λ fault. fault ≡ OutOfMemory) }
@@ -63,7 +63,7 @@ impl OpenPacket {
         requires turned { self.old.begun ≡ None }
         requires room { self.old.count + 1 < 2 ^ 64 }
         ensures ended { IfOk result (λ ended. ended ≡ (start && is_some self.old.held)) }
-        ensures open { OnOk result (open_of self.new ≡ (if start then Some (begun_packet at payload.now) else option_map (with_payload payload.now) self.old.held)) }
+        ensures last { OnOk result (open_of self.new ≡ (if start then Some (begun_packet at payload.now) else option_map (with_payload payload.now) self.old.held)) }
         ensures counts { IfOk result (λ ended. Counts ended self.old self.new) }
         ensures memory { IfErr result (λ fault. fault ≡ OutOfMemory) }
     {

@@ -27,7 +27,7 @@ pub struct PassingPackets {
     index: usize,
     /// How many transport packets were read.
     read: usize,
-    open: OpenPacket,
+    pes: OpenPacket,
 }
 
 impl PassingPackets {
@@ -53,7 +53,7 @@ impl PassingPackets {
             packets,
             index,
             read: 0,
-            open: OpenPacket::new(alloc),
+            pes: OpenPacket::new(alloc),
         })
     }
 
@@ -75,7 +75,7 @@ impl PassingPackets {
         ensures causes { SourceCauses S.faults S.absences (IsErrOf result (Outside Fault.Failed)) (IsErrOf result (Outside Fault.Missing)) source.old source.new }
         ensures keeps { S.keeps source.old source.new }
     {
-        match self.open.turn() {
+        match self.pes.turn() {
             Ok(()) => {}
             Err(fault) => return Err(PassFault::Refused(fault)),
         }
@@ -101,14 +101,14 @@ impl PassingPackets {
     pub fn packet(&self) -> Option<&PesUnit>
         ensures { option_copied result ≡ held_of self.now }
     {
-        self.open.held.as_ref()
+        self.pes.held.as_ref()
     }
 
     /// How many PES packets have ended.
     pub fn count(&self) -> u64
         ensures { result ≡ count_of self.now }
     {
-        self.open.count
+        self.pes.count
     }
 
     /// How many transport packets were read.
@@ -122,10 +122,10 @@ impl PassingPackets {
     fn take(&mut self, packet: &[u8; PACKET_BYTES]) -> Result<bool, DemuxFault>
         requires place { PACKET_BYTES * self.old.read + PACKET_BYTES < 2 ^ 64 }
         requires distinct { AreDistinct (pids_of self.old) }
-        requires turned { self.old.open.begun ≡ None }
-        requires few { self.old.open.count ≤ self.old.read }
+        requires turned { self.old.pes.begun ≡ None }
+        requires few { self.old.pes.count ≤ self.old.read }
         ensures taken { (file : List ℕ) (ended : List PesUnit) → self.old.read < piece_count file → packet.now ≡ piece_at file self.old.read → StandsIn file ended self.old →
-            IfOk result (λ ends. StandsIn file (ended_behind ends ended self.new.open.held) self.new) }
+            IfOk result (λ ends. StandsIn file (ended_behind ends ended self.new.pes.held) self.new) }
         ensures holds { IfOk result (λ ends. Holds ends self.new) }
         ensures refused { IfErr result (λ fault. IsMemory fault
             ⊎ ((file : List ℕ) (ended : List PesUnit) → self.old.read < piece_count file → packet.now ≡ piece_at file self.old.read → StandsIn file ended self.old →
@@ -143,6 +143,6 @@ impl PassingPackets {
         if found.index != self.index {
             return Ok(false);
         }
-        self.open.add(found.at, found.start, found.payload)
+        self.pes.add(found.at, found.start, found.payload)
     }
 }

@@ -14,7 +14,7 @@ abbrev pub room_of : Option PesUnit → List ℕ
 room_of None = []
 room_of (Some packet) = packet.bytes
 
--- A packet that ends is held and counted; else nothing is counted, and the open one is held.
+-- A packet that ends is held and counted; else nothing is counted, and the last one is held.
 abbrev pub Counts : Bool → OpenPacket → OpenPacket → Type 0
 Counts true old new = (new.held ≡ old.held) × (new.count ≡ old.count + 1)
 Counts false old new = (new.begun ≡ None) × (new.count ≡ old.count)
@@ -24,7 +24,7 @@ abbrev pub ended_behind : Bool → List PesUnit → Option PesUnit → List PesU
 ended_behind true ended held = ended ++ option_to_list held
 ended_behind false ended held = ended
 
--- one that has ended is held; else the open one is
+-- one that has ended is held; else the last one is
 abbrev pub Holds : Bool → PassingPackets → Type 0
-Holds true packets = IsSome packets.open.held
-Holds false packets = packets.open.begun ≡ None
+Holds true packets = IsSome packets.pes.held
+Holds false packets = packets.pes.begun ≡ None

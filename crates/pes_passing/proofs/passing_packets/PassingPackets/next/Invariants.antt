@@ -8,7 +8,7 @@ invariant-loop-fault g l = record {
   passed : (left : Option (List ℕ)) (most : ℕ) (ended : List PesUnit)
       → HasPassed left (g.S.Source.left l.fn.source) most (g.S.Source.most l.fn.source) l.fn.buffer ended l.fn.self
       → HasPassed left (g.S.Source.left l.source) most (g.S.Source.most l.source) l.buffer ended l.self;
-  turned : l.self.open.begun ≡ None;
+  turned : l.self.pes.begun ≡ None;
   pids : pids_of l.self ≡ pids_of l.fn.self;
   index : l.self.index ≡ l.fn.self.index;
   faults : g.S.Source.faults l.fn.source ≤ g.S.Source.faults l.source;
