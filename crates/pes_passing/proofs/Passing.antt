@@ -1,11 +1,10 @@
 -- PES packets that pass out of a source, one transport packet further.
-use Rattle.std.proofs.Common.{◌≡◌, ℕ, ◌+◌, ◌*◌, ◌<◌, ◌≤◌, Bool, true, false, List, [], ◌∷◌, ◌++◌, length, take, drop, map, slice_get, Option, Some, None, IsSome, inl, inr, ◌⊎◌, refl, sym, ap, ◌∙◌, subst, arith, append_assoc, length-append, length-take-le}
+use Rattle.std.proofs.Common.{◌≡◌, ℕ, ◌+◌, ◌*◌, ◌<◌, ◌≤◌, true, false, List, [], ◌++◌, length, take, drop, slice_get, Option, Some, None, IsSome, refl, sym, ap, ◌∙◌, subst, arith, append_assoc, length-take-le}
 use Rattle.shelf_io.specs.Source.{source_bytes_most}
 use Rattle.ts_packets.specs.TransportStream.{piece_at, piece_count}
-use Rattle.ts_demux.specs.declared.carried_packets.CarriedPackets.{CarriedPackets}
 use Rattle.ts_demux.specs.declared.demux_fault.DemuxFault.{DemuxFault}
 use Rattle.ts_demux.specs.declared.demuxed.PesUnit.{PesUnit}
-use Rattle.ts_demux.specs.CarriedPackets.{pids_read, StandsAt}
+use Rattle.ts_demux.specs.CarriedPackets.{StandsAt}
 use Rattle.ts_demux.specs.Demux.{IsFirstStreamFault}
 use Rattle.ts_demux.specs.PacketBuffer.{IsAtEnd, Passes}
 use Rattle.ts_demux.specs.Pass.{IsEarly, IsWhole}
@@ -13,8 +12,8 @@ use Rattle.ts_demux.proofs.PassSteps.{next_count, next_piece, next_within, passe
 use Rattle.ts_demux.proofs.Passing.{passes_none}
 use Rattle.pes_passing.specs.declared.open_packet.OpenPacket.{OpenPacket}
 use Rattle.pes_passing.specs.declared.passing_packets.PassingPackets.{PassingPackets}
-use Rattle.pes_passing.specs.PassingPackets.{AreSplit, count_of, Goes, HasPassed, open_of, pids_of, StandsAtEnd, StandsIn}
-use Rattle.pes_passing.specs.Private.OpenPacket.{ended_behind, Holds}
+use Rattle.pes_passing.specs.PassingPackets.{Goes, HasPassed, open_of, pids_of, StandsAtEnd, StandsIn}
+use Rattle.pes_passing.specs.Private.OpenPacket.{ended_behind}
 use Rattle.pes_passing.proofs.Standing.{all_at_end, stands_turned}
 
 -- nothing has passed

@@ -1,5 +1,5 @@
 -- The PES packets that a PID carries, one payload further.
-use Rattle.std.proofs.Common.{◌≡◌, ℕ, ◌+◌, ◌<◌, ◌≤◌, Bool, true, false, cond, ◌&&◌, nat_lt, List, [], ◌∷◌, ◌++◌, length, map, sum_by, Option, Some, None, is_some, refl, sym, ap, ◌∙◌, length-append, arith}
+use Rattle.std.proofs.Common.{◌≡◌, ℕ, ◌+◌, ◌<◌, ◌≤◌, Bool, true, false, cond, ◌&&◌, nat_lt, List, [], ◌∷◌, ◌++◌, length, map, Option, Some, None, is_some, refl, sym, ap, ◌∙◌, length-append, arith}
 use Rattle.std.specs.Option.{option_map, option_to_list}
 use Rattle.std.proofs.lemmas.Bool.Decides.{nat_tests}
 use Rattle.std.proofs.lemmas.List.{append-nil, map-append}
@@ -51,7 +51,7 @@ split_on xs x ended None start split =
     }
 split_on xs x ended (Some packet) start split =
     let bare : gathered xs ≡ map as_gathered ended ++ as_gathered packet ∷ [] =
-        sym (back (gathered xs)) ∙ ap (map as_gathered) split.packets ∙ map-append as_gathered ended (packet ∷ []) in
+    sym (back (gathered xs)) ∙ ap (map as_gathered) split.packets ∙ map-append as_gathered ended (packet ∷ []) in
     record {
       packets = ap (map unit_of)
           (gathered_on xs x start ∙ ap (λ (packets : List Gathered). longer packets x) bare ∙ longer_last (map as_gathered ended) (as_gathered packet) x)
@@ -63,12 +63,12 @@ split_on xs x ended (Some packet) start split =
 -- one that isn't empty
 pub split_more : (xs : List CarriedPayload) (x : CarriedPayload) (ended : List PesUnit) (last : Option PesUnit) → 0 < length x.payload.bytes → AreSplit (units_of xs) ended last
     → AreSplit (units_of (xs ++ x ∷ [])) (cond x.payload.start (ended ++ option_to_list last) ended)
-        (cond x.payload.start (Some (begun_packet x.at x.payload.bytes)) (option_map (with_payload x.payload.bytes) last))
+    (cond x.payload.start (Some (begun_packet x.at x.payload.bytes)) (option_map (with_payload x.payload.bytes) last))
 split_more xs x ended last some split = by_start x.payload.start refl (nat_lt 0 (length x.payload.bytes)) refl
   where
     by_start : (start : Bool) → x.payload.start ≡ start → (full : Bool) → nat_lt 0 (length x.payload.bytes) ≡ full
         → AreSplit (units_of (xs ++ x ∷ [])) (cond start (ended ++ option_to_list last) ended)
-            (cond start (Some (begun_packet x.at x.payload.bytes)) (option_map (with_payload x.payload.bytes) last))
+        (cond start (Some (begun_packet x.at x.payload.bytes)) (option_map (with_payload x.payload.bytes) last))
     by_start start start_is false full_is = absurd (grind (arith, nat_tests))
     by_start true start_is true full_is = split_start xs x ended last (ap (λ (b : Bool). b && nat_lt 0 (length x.payload.bytes)) start_is ∙ full_is) split
     by_start false start_is true full_is = split_on xs x ended last (ap (λ (b : Bool). b && nat_lt 0 (length x.payload.bytes)) start_is) split
@@ -115,8 +115,15 @@ pub sized : (start : Bool) (at : ℕ) (payload : List ℕ) (ended : List PesUnit
     → size_of (cond start (ended ++ option_to_list last) ended ++ option_to_list (cond start (Some (begun_packet at payload)) (option_map (with_payload payload) last)))
     ≤ size_of (ended ++ option_to_list last) + length payload
 sized true at payload ended last =
-    omega (arith, sum_by-append (λ (p : PesUnit). length p.bytes) (ended ++ option_to_list last) (begun_packet at payload ∷ []),
-    sum_by-cons (λ (p : PesUnit). length p.bytes) (begun_packet at payload) [])
+    omega (
+      arith,
+      sum_by-append (λ (p : PesUnit). length p.bytes) (ended ++ option_to_list last) (begun_packet at payload ∷ []),
+      sum_by-cons (λ (p : PesUnit). length p.bytes) (begun_packet at payload) [],
+    )
 sized false at payload ended last =
-    omega (arith, sum_by-append (λ (p : PesUnit). length p.bytes) ended (option_to_list (option_map (with_payload payload) last)),
-    sum_by-append (λ (p : PesUnit). length p.bytes) ended (option_to_list last), open_size last payload)
+    omega (
+      arith,
+      sum_by-append (λ (p : PesUnit). length p.bytes) ended (option_to_list (option_map (with_payload payload) last)),
+      sum_by-append (λ (p : PesUnit). length p.bytes) ended (option_to_list last),
+      open_size last payload,
+    )

@@ -1,5 +1,5 @@
 -- A reader of PES packets that stands in a file, one transport packet further.
-use Rattle.std.proofs.Common.{◌≡◌, ℕ, ◌+◌, ◌*◌, ◌<◌, ◌≤◌, ◌&&◌, Bool, true, false, cond, List, [], ◌∷◌, ◌++◌, length, map, slice_get, Option, Some, None, is_some, Result, Ok, Err, IfOk, IfErr, OnOk, refl, sym, ap, ◌∙◌, subst, arith, length-append}
+use Rattle.std.proofs.Common.{◌≡◌, ℕ, ◌+◌, ◌*◌, ◌<◌, ◌≤◌, ◌&&◌, Bool, true, false, cond, List, [], ◌∷◌, ◌++◌, length, slice_get, Option, Some, None, is_some, Result, Ok, Err, IfOk, IfErr, OnOk, refl, sym, ap, ◌∙◌, subst, arith, length-append}
 use Rattle.std.specs.Option.{option_map, option_to_list}
 use Rattle.std.proofs.lemmas.List.{append-nil}
 use Rattle.bit_lists.specs.Payload.{CarriedPayload}
@@ -9,9 +9,9 @@ use Rattle.ts_demux.specs.declared.carried_packets.StreamPayload.{StreamPayload}
 use Rattle.ts_demux.specs.declared.demux_fault.DemuxFault.{DemuxFault}
 use Rattle.ts_demux.specs.declared.demuxed.PesUnit.{PesUnit}
 use Rattle.ts_demux.specs.CarriedPackets.{AddsFound, added_to, as_carried, carried_before, pids_read, StandsAt}
-use Rattle.ts_demux.specs.Demux.{AreStreamsSound, IsFirstStreamFault, IsStreamFault}
-use Rattle.ts_demux.proofs.CarriedSteps.{other_added, own_added}
-use Rattle.ts_demux.proofs.GatherSteps.{first_fault, sound_all, sound_more}
+use Rattle.ts_demux.specs.Demux.{IsStreamFault}
+use Rattle.ts_demux.proofs.CarriedSteps.{own_added}
+use Rattle.ts_demux.proofs.GatherSteps.{sound_all, sound_more}
 use Rattle.pes_passing.specs.declared.open_packet.OpenPacket.{OpenPacket}
 use Rattle.pes_passing.specs.declared.passing_packets.PassingPackets.{PassingPackets}
 use Rattle.pes_passing.specs.PassingPackets.{AreSplit, begun_packet, open_between, open_of, packets_before, pids_of, size_of, StandsAtEnd, StandsIn}
@@ -24,7 +24,7 @@ pub stands_same : (file : List ℕ) (ended : List PesUnit) (old : PassingPackets
     → StandsIn file ended (record { packets = packets; index = old.index; read = old.read + 1; pes = old.pes })
 stands_same file ended old packets found pids_are adds none stand was =
     let same : carried_before file was.pid (old.read + 1) ≡ carried_before file was.pid old.read =
-        adds.each old.index was.pid was.pid_is ∙ ap (λ (xs : List CarriedPayload). carried_before file was.pid old.read ++ xs) none ∙ append-nil (carried_before file was.pid old.read) in
+    adds.each old.index was.pid was.pid_is ∙ ap (λ (xs : List CarriedPayload). carried_before file was.pid old.read ++ xs) none ∙ append-nil (carried_before file was.pid old.read) in
     record {
       stand = stand;
       sound = subst (λ (pids : List ℕ). (n : ℕ) (fault : DemuxFault) → n < old.read + 1 → IsStreamFault file pids n fault → ⊥) (sym pids_are)
@@ -97,7 +97,7 @@ all_at_end seen rest ended packets count short turned was =
     let end : packets.read ≡ piece_count (seen ++ rest) = omega (arith, count, short, length-append seen rest) in
     let held_is : open_of packets.pes ≡ packets.pes.held = ap (λ (begun : Option ℕ). open_between begun packets.pes.first.items packets.pes.held) turned in
     let few_bytes : size_of (ended ++ option_to_list packets.pes.held) ≤ 188 * packets.read =
-        subst (λ (last : Option PesUnit). size_of (ended ++ option_to_list last) ≤ 188 * packets.read) held_is was.few_bytes in
+    subst (λ (last : Option PesUnit). size_of (ended ++ option_to_list last) ≤ 188 * packets.read) held_is was.few_bytes in
     record {
       read_is = end;
       sound = sound_all (seen ++ rest) (pids_of packets) packets.read (omega (arith, end)) was.sound;

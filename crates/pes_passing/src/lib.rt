@@ -5,6 +5,7 @@
 //! gives the transport packets and whose `CarriedPackets` what they carry.
 #![tactic(auto)]
 
+pub mod laws;
 mod open_packet;
 mod passing_packets;
 

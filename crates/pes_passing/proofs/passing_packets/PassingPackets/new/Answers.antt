@@ -1,4 +1,4 @@
-use Rattle.std.proofs.Common.{◌≡◌, ◌<◌, length, map, get_or, refl, ap, arith}
+use Rattle.std.proofs.Common.{◌<◌, length, get_or, refl, ap, arith}
 use Rattle.std.proofs.lemmas.List.{length-map}
 use Rattle.std.proofs.lemmas.Option.{slice_get-get_or}
 use Rattle.psi_tables.specs.declared.stream.Stream.{Stream}

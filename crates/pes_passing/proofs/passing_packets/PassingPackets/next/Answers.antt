@@ -1,4 +1,4 @@
-use Rattle.std.proofs.Common.{◌≡◌, ◌<◌, ◌+◌, ◌∙◌, ℕ, Bool, List, Option, None, inl, inr, true, [], length, refl, sym, ap, subst, arith, length-drop}
+use Rattle.std.proofs.Common.{◌<◌, ◌∙◌, ℕ, Bool, List, Option, inl, inr, true, [], length, refl, sym, ap, subst, arith, length-drop}
 use Rattle.ts_demux.specs.CarriedPackets.{AreDistinct}
 use Rattle.ts_demux.specs.Demux.{IsFirstStreamFault}
 use Rattle.ts_demux.specs.Pass.{IsEarly}

@@ -1,4 +1,4 @@
-use Rattle.std.proofs.Common.{◌≡◌, ◌+◌, ◌<◌, ◌≤◌, ◌&&◌, ℕ, Bool, cond, is_some, List, Option, Some, None, IfSome, inl, inr, length, refl, subst, arith}
+use Rattle.std.proofs.Common.{◌≡◌, ◌+◌, ◌<◌, ◌≤◌, ◌&&◌, Bool, cond, is_some, Option, Some, None, IfSome, inl, inr, length, refl, subst, arith}
 use Rattle.std.specs.Option.{option_map}
 use Rattle.ts_demux.specs.declared.carried_packets.StreamPayload.{StreamPayload}
 use Rattle.ts_demux.specs.declared.demux_fault.DemuxFault.{DemuxFault}
