@@ -3,13 +3,11 @@
 //! `read_program` answers a program, or the first refusal of its file with its place: one answer alone, by `laws::one_answer`.
 //! `read_sized_program` answers the sizes of all versions of its units too, and reads each unit once for both. `unit_weight` says by
 //! how much a unit's distortions count. The steps stand in a file each.
-//! Stands on `ts_demux`, `program_stream`, `pes_units`, `es_units`, `audio_frames`, `picture_reader`, `version_maker`, `job_report` and those below
-//! them.
+//! Stands on `ts_demux`, `program_stream`, `elementary_streams`, `es_units`, `picture_reader`, `version_maker`, `job_report` and those below them.
 #![tactic(auto)]
 
 mod audio_sources;
-mod audio_starts;
-mod audio_stream;
+mod audio_streams;
 mod audio_types;
 mod carry;
 mod cut_places;
@@ -22,7 +20,6 @@ pub mod laws;
 pub mod limits;
 mod packet_bytes;
 mod passed_units;
-mod pes_packets;
 mod picture_times;
 mod pieces;
 mod program;
@@ -40,7 +37,6 @@ mod video_walk;
 
 pub use carry::unit_weight;
 pub use kept_units::KeptUnit;
-pub use pes_packets::PlacedPacket;
 pub use program::{AudioPiece, AudioSource, Program, UnitSource};
 pub use program_fault::{ProgramFault, SourceKind};
 pub use reading::{SizedProgram, read_program, read_sized_program};

@@ -1,7 +1,8 @@
 ghost use Rattle.std.specs.Prelude.{◌≡◌};
-ghost use Rattle.program_reader.specs.Faults.{of_demux, of_split, of_pes, of_audio};
+ghost use Rattle.program_reader.specs.Faults.{of_demux, of_split, of_pes, of_audio, of_stream};
 
 use audio_frames::AudioFault;
+use elementary_streams::StreamFault;
 use list_types::OutOfMemory;
 use pes_units::PesFault;
 use program_stream::SplitFault;
@@ -197,7 +198,7 @@ pub(crate) fn pes_refused(at: u64, fault: PesFault) -> ProgramFault
 }
 
 /// What the frames of an audio stream are refused for.
-pub(crate) fn audio_refused(fault: AudioFault) -> ProgramFault
+fn audio_refused(fault: AudioFault) -> ProgramFault
     ensures { result ≡ of_audio fault }
 {
     let (kind, at) = match fault {
@@ -208,4 +209,15 @@ pub(crate) fn audio_refused(fault: AudioFault) -> ProgramFault
         AudioFault::OutOfMemory => return ProgramFault::OutOfMemory,
     };
     ProgramFault::Refused { kind, at }
+}
+
+/// What an elementary stream is refused for.
+pub(crate) fn stream_refused(fault: StreamFault) -> ProgramFault
+    ensures { result ≡ of_stream fault }
+{
+    match fault {
+        StreamFault::Pes { at, fault } => pes_refused(at, fault),
+        StreamFault::Frames(fault) => audio_refused(fault),
+        StreamFault::OutOfMemory => ProgramFault::OutOfMemory,
+    }
 }

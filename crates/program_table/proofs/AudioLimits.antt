@@ -13,11 +13,12 @@ use Rattle.version_table.specs.declared.table.AudioPacket.{AudioPacket}
 use Rattle.version_table.specs.Table.{IsValidAudio, IsValidPacket}
 use Rattle.program_reader.specs.declared.program.AudioPiece.{AudioPiece}
 use Rattle.program_reader.specs.declared.program.AudioSource.{AudioSource}
-use Rattle.program_reader.specs.Audio.{AreAudioSources, HasFrames, HaveFrames, IsAudioSource, placed_pieces, taken_of}
-use Rattle.program_reader.specs.Packets.{joined, placed_from}
+use Rattle.program_reader.specs.Audio.{AreAudioSources, HaveFrames, IsAudioSource, placed_pieces}
+use Rattle.elementary_streams.specs.Audio.{HasFrames, taken_of}
+use Rattle.elementary_streams.specs.Packets.{joined, placed_from}
 use Rattle.job_programs.specs.Programs.{last_time}
 use Rattle.job_programs.specs.Share.{audio_packets}
-use Rattle.program_reader.proofs.StreamLemmas.{taken_payloads}
+use Rattle.elementary_streams.proofs.StreamLemmas.{taken_payloads}
 use Rattle.program_table.specs.Table.{audio_row}
 use Rattle.program_table.proofs.AudioTimes.{Follow, InOrder, Reach, Rise, follow-of, pieces-in-order, reach-of, rise-of}
 

@@ -6,7 +6,6 @@
 #![tactic(auto)]
 
 mod arrivals;
-mod audio_read;
 mod audit_stop;
 mod audited_audio;
 mod audited_program;
@@ -22,12 +21,10 @@ mod judge;
 mod kept_units;
 mod packets_of;
 mod pes_parts;
-mod pes_starts;
 mod read_program;
 mod removals;
 mod sections;
 mod streams_of;
-mod taken_pes;
 mod video_packets;
 
 pub use arrivals::arrivals_in;
