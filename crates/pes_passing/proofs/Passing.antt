@@ -1,5 +1,6 @@
 -- PES packets that pass out of a source, one transport packet further.
-use Rattle.std.proofs.Common.{◌≡◌, ℕ, ◌+◌, ◌*◌, ◌<◌, ◌≤◌, true, false, List, [], ◌++◌, length, take, drop, slice_get, Option, Some, None, IsSome, refl, sym, ap, ◌∙◌, subst, arith, append_assoc, length-take-le}
+use Rattle.std.proofs.Common.{◌≡◌, ℕ, ◌+◌, ◌*◌, ◌<◌, ◌≤◌, true, false, List, [], ◌++◌, length, take, drop, slice_get, Option, Some, None, IsSome, refl, sym}
+use Rattle.std.proofs.Common.{ap, ◌∙◌, subst, arith, append_assoc, length-take-le}
 use Rattle.shelf_io.specs.Source.{source_bytes_most}
 use Rattle.ts_packets.specs.TransportStream.{piece_at, piece_count}
 use Rattle.ts_demux.specs.declared.demux_fault.DemuxFault.{DemuxFault}
@@ -18,7 +19,8 @@ use Rattle.pes_passing.proofs.Standing.{all_at_end, stands_turned}
 
 -- nothing has passed
 pub none_passed : (left : Option (List ℕ)) (most : ℕ) (packets : PassingPackets) → most ≤ source_bytes_most → packets.read ≡ 0 → packets.pes.held ≡ None → packets.pes.begun ≡ None
-    → packets.pes.count ≡ 0 → (pid : ℕ) → slice_get (pids_of packets) packets.index ≡ Some pid → ((file : List ℕ) → StandsAt file 0 packets.packets) → HasPassed left left most most [] [] packets
+    → packets.pes.count ≡ 0 → (pid : ℕ) → slice_get (pids_of packets) packets.index ≡ Some pid
+    → ((file : List ℕ) → StandsAt file 0 packets.packets) → HasPassed left left most most [] [] packets
 none_passed left most packets few read held begun count pid pid_is stand = record {
   most_few = few;
   seen = [];
@@ -76,7 +78,8 @@ packet_passed left mid after most most_mid most_after held held_after ended ende
 -- one that is refused
 pub refused_early : (left mid after : Option (List ℕ)) (most most_mid most_after : ℕ) (held held_after : List ℕ) (ended : List PesUnit) (old : PassingPackets) (pids : List ℕ)
     (fault : DemuxFault) → HasPassed left mid most most_mid held ended old → Passes mid after most_mid most_after held [] held_after → 188 ≤ length held_after → pids_of old ≡ pids
-    → ((file : List ℕ) (ended : List PesUnit) → old.read < piece_count file → take 188 held_after ≡ piece_at file old.read → StandsIn file ended old → IsFirstStreamFault file (pids_of old) fault)
+    → ((file : List ℕ) (ended : List PesUnit) → old.read < piece_count file → take 188 held_after ≡ piece_at file old.read
+        → StandsIn file ended old → IsFirstStreamFault file (pids_of old) fault)
     → IsEarly left after most most_after (drop 188 held_after) (λ file. IsFirstStreamFault file pids fault)
 refused_early left mid after most most_mid most_after held held_after ended old pids fault was filled some pids_are first =
     let packet = take 188 held_after in
@@ -103,6 +106,7 @@ all_passed left mid after most most_mid most_after held held_after ended packets
 
 -- a packet that has ended is held
 pub one_ended : (left left_after : Option (List ℕ)) (most most_after : ℕ) (held : List ℕ) (ended : List PesUnit) (packets : PassingPackets) (last : Option PesUnit)
-    → packets.pes.held ≡ last → IsSome last → HasPassed left left_after most most_after held (ended_behind true ended last) packets → Goes true left left_after most most_after held ended packets
+    → packets.pes.held ≡ last → IsSome last → HasPassed left left_after most most_after held (ended_behind true ended last) packets
+    → Goes true left left_after most most_after held ended packets
 one_ended left left_after most most_after held ended packets None held_is some passed = absurd (let bad : false ≡ true = some in cc)
 one_ended left left_after most most_after held ended packets (Some packet) held_is some passed = (packet, held_is, passed)

@@ -1,5 +1,6 @@
 -- A reader of PES packets that stands in a file, one transport packet further.
-use Rattle.std.proofs.Common.{◌≡◌, ℕ, ◌+◌, ◌*◌, ◌<◌, ◌≤◌, ◌&&◌, Bool, true, false, cond, List, [], ◌∷◌, ◌++◌, length, slice_get, Option, Some, None, is_some, Result, Ok, Err, IfOk, IfErr, OnOk, refl, sym, ap, ◌∙◌, subst, arith, length-append}
+use Rattle.std.proofs.Common.{◌≡◌, ℕ, ◌+◌, ◌*◌, ◌<◌, ◌≤◌, ◌&&◌, Bool, true, false, cond, List, [], ◌∷◌, ◌++◌, length, slice_get, Option, Some, None, is_some}
+use Rattle.std.proofs.Common.{Result, Ok, Err, IfOk, IfErr, OnOk, refl, sym, ap, ◌∙◌, subst, arith, length-append}
 use Rattle.std.specs.Option.{option_map, option_to_list}
 use Rattle.std.proofs.lemmas.List.{append-nil}
 use Rattle.bit_lists.specs.Payload.{CarriedPayload}
@@ -112,8 +113,8 @@ all_at_end seen rest ended packets count short turned was =
 -- ---- what an answer says
 
 -- facts of an answer that hold together
-pub on_added : {T E : Type 0} (result : Result T E) (A : T → Type 0) (B : Type 0) (C D : T → Type 0) → IfOk result A → OnOk result B → IfOk result C → ((x : T) → A x → B → C x → D x)
-    → IfOk result D
+pub on_added : {T E : Type 0} (result : Result T E) (A : T → Type 0) (B : Type 0) (C D : T → Type 0) → IfOk result A → OnOk result B → IfOk result C
+    → ((x : T) → A x → B → C x → D x) → IfOk result D
 on_added (Ok x) A B C D a b c f = f x a b c
 on_added (Err e) A B C D a b c f = tt
 

@@ -51,7 +51,8 @@ take-taken-requires-clause-distinct g c = subst AreDistinct (sym c.loop-fault.in
 pub take-taken-requires-clause-place : goal.take-taken-requires-clause-place
 take-taken-requires-clause-place g c =
     let (left, most, ended, was) = c.requires.stands in
-    let few = within left (g.S.Source.left c.loop-fault.source) most (g.S.Source.most c.loop-fault.source) c.loop-fault.buffer ended c.loop-fault.self (c.loop-fault.invariant.passed left most ended was) in
+    let few = within left (g.S.Source.left c.loop-fault.source) most (g.S.Source.most c.loop-fault.source) c.loop-fault.buffer ended c.loop-fault.self
+    (c.loop-fault.invariant.passed left most ended was) in
     omega (arith, few.0)
 
 pub take-taken-requires-clause-few : goal.take-taken-requires-clause-few
@@ -88,8 +89,8 @@ returns-in-Err-taken-clause-refused g c left most ended was =
     let pids = pids_of c.args.self.now in
     elim c.in-Err-taken.ensures.refused [
       | inl memory ↦ inl memory
-      | inr first ↦ inr (subst (λ (held : List ℕ). IsEarly left (g.S.Source.left c.fill.new.source) most (g.S.Source.most c.fill.new.source) held (λ file. IsFirstStreamFault file pids c.in-Err-taken.fault))
-          (sym c.pass.ensures)
+      | inr first ↦ inr (subst (λ (held : List ℕ). IsEarly left (g.S.Source.left c.fill.new.source) most (g.S.Source.most c.fill.new.source) held
+          (λ file. IsFirstStreamFault file pids c.in-Err-taken.fault)) (sym c.pass.ensures)
           (refused_early left (g.S.Source.left c.loop-fault.source) (g.S.Source.left c.fill.new.source) most (g.S.Source.most c.loop-fault.source) (g.S.Source.most c.fill.new.source)
           c.loop-fault.buffer c.fill.new.self ended c.loop-fault.self pids c.in-Err-taken.fault (inv.passed left most ended was) c.in-Ok-fill.ensures.passes c.in-Some.ensures.some.0 inv.pids
           (λ file earlier within piece stands. first file earlier within (c.in-Some.ensures.some.1 ∙ piece) stands)))
