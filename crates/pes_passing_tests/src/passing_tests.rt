@@ -64,7 +64,7 @@ fn push_copy(
     units: &mut Vec<PesUnit>,
     packet: Option<&PesUnit>,
 ) -> Result<(), OutOfMemory>
-    ensures { OnOk result (units.new.items ≡ units.old.items ++ option_to_list (option_copied packet)) }
+    ensures { OnOk result (units.new.items ≡ units.old.items ++ option_to_list (option_copied packet.entry)) }
 {
     let Some(packet) = packet else {
         return Ok(());
@@ -120,8 +120,8 @@ fn packet(pid: u16, start: bool, counter: u8, byte: u8) -> [u8; PACKET_BYTES] {
 }
 
 /// A video packet before the first PES packet; a PES packet of two; one of the audio; one of the video and one of the audio whose packets stand between
-/// each other; the last one of the video; and three bytes.
-fn mixed_file(alloc: Global) -> Result<Vec<u8>, AllocError> {
+/// each other; the last one of the video; and three bytes: 1,883 bytes, of which so many stand in the file.
+fn mixed_file(alloc: Global, length: usize) -> Result<Vec<u8>, AllocError> {
     let mut file = Vec::new(alloc);
     for packet in [
         packet(VIDEO_PID, false, 0, 0xA0),
@@ -138,6 +138,7 @@ fn mixed_file(alloc: Global) -> Result<Vec<u8>, AllocError> {
         file.extend_from_slice(&packet)?;
     }
     file.extend_from_slice(&[SYNC_BYTE, 0x01, 0x01])?;
+    file.truncate(length);
     Ok(file)
 }
 
@@ -160,11 +161,20 @@ fn are_so(packets: &Result<Vec<PesUnit>, PassFault>, said: &[Said]) -> bool {
 
 #[test]
 fn the_packets_of_a_stream_whatever_a_call_gives(rt: HostRuntime) -> Result<(), Fail> {
-    let file = mixed_file(rt.alloc())?;
+    let file = mixed_file(rt.alloc(), 1883)?;
     for given in GIVEN {
         for room in [188, 375, 3_008] {
             let video = packets_of(rt.alloc(), file.as_slice(), given, room, 0)?;
-            assert!(rt; are_so(&video, &[(188, 368, 0xA1, 0xA2), (752, 368, 0xA3, 0xA4), (1692, 184, 0xA5, 0xA5)]));
+            assert!(rt;
+                are_so(
+                    &video,
+                    &[
+                        (188, 368, 0xA1, 0xA2),
+                        (752, 368, 0xA3, 0xA4),
+                        (1692, 184, 0xA5, 0xA5)
+                    ]
+                )
+            );
             let audio = packets_of(rt.alloc(), file.as_slice(), given, room, 1)?;
             assert!(rt; are_so(&audio, &[(564, 184, 0xC7, 0xC7), (940, 368, 0xC8, 0xC9)]));
         }
@@ -174,13 +184,17 @@ fn the_packets_of_a_stream_whatever_a_call_gives(rt: HostRuntime) -> Result<(), 
 
 #[test]
 fn a_file_that_ends_within_a_packet(rt: HostRuntime) -> Result<(), Fail> {
-    let file = mixed_file(rt.alloc())?;
+    let (cut, first, none) = (
+        mixed_file(rt.alloc(), 1000)?,
+        mixed_file(rt.alloc(), 375)?,
+        mixed_file(rt.alloc(), 188)?,
+    );
     for given in GIVEN {
-        let cut = packets_of(rt.alloc(), &file.as_slice()[..1000], given, 188, 0)?;
-        assert!(rt; are_so(&cut, &[(188, 368, 0xA1, 0xA2), (752, 184, 0xA3, 0xA3)]));
-        let none = packets_of(rt.alloc(), &file.as_slice()[..375], given, 188, 1)?;
-        assert!(rt; are_so(&none, &[]));
-        let before = packets_of(rt.alloc(), &file.as_slice()[..188], given, 188, 0)?;
+        let video = packets_of(rt.alloc(), cut.as_slice(), given, 188, 0)?;
+        assert!(rt; are_so(&video, &[(188, 368, 0xA1, 0xA2), (752, 184, 0xA3, 0xA3)]));
+        let audio = packets_of(rt.alloc(), first.as_slice(), given, 188, 1)?;
+        assert!(rt; are_so(&audio, &[]));
+        let before = packets_of(rt.alloc(), none.as_slice(), given, 188, 0)?;
         assert!(rt; are_so(&before, &[]));
     }
     Ok(())
@@ -189,13 +203,15 @@ fn a_file_that_ends_within_a_packet(rt: HostRuntime) -> Result<(), Fail> {
 /// A packet of the other stream is refused too, and where both have a fault the first in the file.
 #[test]
 fn the_first_packet_that_is_refused(rt: HostRuntime) -> Result<(), Fail> {
-    let mut file = mixed_file(rt.alloc())?;
-    file.truncate(1880);
+    let mut file = mixed_file(rt.alloc(), 1880)?;
     file.extend_from_slice(&packet(AUDIO_PID, false, 12, 0xCC))?;
     file.extend_from_slice(&packet(VIDEO_PID, false, 9, 0xA9))?;
     for index in 0..2 {
         let refused = packets_of(rt.alloc(), file.as_slice(), 189, 188, index)?;
-        assert_eq!(rt; refused.err(), Some(PassFault::Refused(DemuxFault::Gap { at: 1880 })));
+        assert_eq!(rt;
+            refused.err(),
+            Some(PassFault::Refused(DemuxFault::Gap { at: 1880 }))
+        );
     }
     Ok(())
 }

@@ -1,5 +1,5 @@
 //! The video of a file, read while the file passes out of a source.
-ghost use Rattle.std.specs.Prelude.{◌≡◌, ◌⊎◌, ℕ, ◌+◌, ◌*◌, ◌<◌, ◌≤◌, ◌^◌, List, [], ◌∷◌, ◌++◌, length, map, Option, Some, None, IfErr, IfOk, OnOk, IsErrOf, MatchResult, if◌then◌else◌};
+ghost use Rattle.std.specs.Prelude.{◌≡◌, ◌⊎◌, ℕ, ◌+◌, ◌*◌, ◌<◌, ◌≤◌, ◌^◌, true, false, List, [], ◌∷◌, ◌++◌, length, map, Option, IfErr, IfOk, OnOk, IsErrOf, MatchResult};
 ghost use Rattle.std.specs.Option.{option_to_list};
 ghost use Rattle.stream_constants.specs.declared.packets.TheConstants.{PACKET_BYTES};
 ghost use Rattle.shelf_io.specs.Causes.{SourceCauses};
@@ -7,13 +7,17 @@ ghost use Rattle.shelf_io.specs.Source.{source_bytes_most};
 ghost use Rattle.ts_demux.specs.declared.demuxed.PesUnit.{PesUnit};
 ghost use Rattle.ts_demux.specs.declared.pass_fault.PassFault.TheVariants.{Outside};
 ghost use Rattle.ts_demux.specs.CarriedPackets.{AreDistinct};
+ghost use Rattle.ts_demux.specs.Faults.{IsMemory};
 ghost use Rattle.ts_demux.specs.Pass.{IsWhole};
 ghost use Rattle.version_table.specs.declared.limits.TheConstants.{VERSIONS_MOST};
 ghost use Rattle.program_reader.specs.declared.program_fault.ProgramFault.TheVariants as program_faults;
-ghost use Rattle.pes_passing.specs.PassingPackets.{count_of, held_of, pids_of, read_of, StandsAtEnd};
+ghost use Rattle.program_reader.specs.declared.limits.TheConstants.{FILE_BYTES_MOST, PES_PACKETS_MOST};
+ghost use Rattle.program_reader.specs.declared.unit_sizes.SizesWanted.{SizesWanted};
+ghost use Rattle.program_reader.specs.VideoWalk.{wanted_of};
+ghost use Rattle.pes_passing.specs.PassingPackets.{count_of, held_of, pids_of, read_of};
 ghost use Rattle.program_pass.specs.declared.read_fault.ReadFault.TheVariants as faults;
 ghost use Rattle.program_pass.specs.PassedVideo.{IsReadRefused, IsVideoRead, IsVideoRefused};
-ghost use Rattle.program_pass.specs.Private.TakenVideo.{HasTaken, Takes};
+ghost use Rattle.program_pass.specs.Private.TakenVideo.{GoesOn, HasTaken, IsAtLast, IsTaking, Takes};
 
 use crate::read_fault::ReadFault;
 use list_types::OutOfMemory;
@@ -31,6 +35,9 @@ const PROGRAM_LIMIT: ProgramFault = ProgramFault::Refused {
     kind: SourceKind::ProgramLimit,
     at: 0,
 };
+
+/// The packets of a file, at most.
+const PACKETS_MOST: usize = FILE_BYTES_MOST / PACKET_BYTES;
 
 /// A video that is read while the packets that carry it pass.
 #[derive(Drop)]
@@ -68,7 +75,12 @@ pub fn read_video<S: Source>(
     loop {
         match video.step(buffer, source) {
             Ok(true) => {}
-            Ok(false) => return video.end(buffer.rest().len()),
+            Ok(false) => {
+                return match video.end(buffer.rest().len()) {
+                    Ok(video) => Ok(video),
+                    Err(fault) => Err(ReadFault::Refused(fault)),
+                };
+            }
             Err(fault) => return Err(fault),
         }
     }
@@ -83,16 +95,18 @@ impl<'a> PassedVideo<'a> {
     ) -> Result<Self, DemuxFault>
         requires some { 0 < length streams.now }
         requires coarser { length wanted.coarser.now < VERSIONS_MOST }
-        ensures { MatchResult result (λ video. (left : Option (List ℕ)) (most : ℕ) → most ≤ source_bytes_most →
-            HasTaken left left most most [] (map (λ stream. stream.pid) streams.now) wanted.entry [] video) IsMemory }
+        ensures taken { IfOk result (λ video. (left : Option (List ℕ)) (most : ℕ) → most ≤ source_bytes_most →
+            HasTaken left left most most [] (map (λ stream. stream.pid) streams.now) wanted.entry [] video) }
+        ensures memory { IfErr result IsMemory }
     {
         let packets = match PassingPackets::new(alloc, streams, 0) {
             Ok(packets) => packets,
             Err(fault) => return Err(fault),
         };
+        let walk = VideoWalk::new(alloc, wanted);
         Ok(PassedVideo {
             packets,
-            walk: VideoWalk::new(alloc, wanted),
+            walk,
             refused: None,
         })
     }
@@ -103,6 +117,18 @@ impl<'a> PassedVideo<'a> {
         buffer: &mut PacketBuffer,
         source: &mut S,
     ) -> Result<bool, ReadFault>
+        requires distinct { AreDistinct (pids_of self.old.packets) }
+        requires taken { (left : Option (List ℕ)) × (most : ℕ) × (pids : List ℕ) × (wanted : SizesWanted) × (ended : List PesUnit)
+            × HasTaken left (S.left source.old) most (S.most source.old) buffer.old pids wanted ended self.old }
+        ensures taken { (left : Option (List ℕ)) (most : ℕ) (pids : List ℕ) (wanted : SizesWanted) (ended : List PesUnit) →
+            HasTaken left (S.left source.old) most (S.most source.old) buffer.old pids wanted ended self.old →
+            IfOk result (λ more. GoesOn more left (S.left source.new) most (S.most source.new) buffer.new pids wanted ended self.new) }
+        ensures refused { (left : Option (List ℕ)) (most : ℕ) (pids : List ℕ) (wanted : SizesWanted) (ended : List PesUnit) →
+            HasTaken left (S.left source.old) most (S.most source.old) buffer.old pids wanted ended self.old →
+            IfErr result (IsReadRefused left (S.left source.new) most (S.most source.new) buffer.new pids) }
+        ensures same { OnOk result (pids_of self.new.packets ≡ pids_of self.old.packets) }
+        ensures causes { SourceCauses S.faults S.absences (IsErrOf result (faults.Passing (Outside Fault.Failed))) (IsErrOf result (faults.Passing (Outside Fault.Missing))) source.old source.new }
+        ensures keeps { S.keeps source.old source.new }
     {
         match self.packets.next(buffer, source) {
             Ok(true) => {}
@@ -117,8 +143,14 @@ impl<'a> PassedVideo<'a> {
 
     /// Takes the PES packet that has ended, as long as there are no more than a program may have.
     fn take(&mut self) -> Result<(), OutOfMemory>
+        requires { (ended : List PesUnit) × (packet : PesUnit) × IsTaking ended packet self.old }
+        ensures taken { (ended : List PesUnit) (packet : PesUnit) → IsTaking ended packet self.old → OnOk result (Takes (read_of self.new.packets) (ended ++ packet ∷ []) self.new) }
+        ensures same { (self.new.packets ≡ self.old.packets) × (wanted_of self.new.walk ≡ wanted_of self.old.walk) }
     {
-        if self.refused.is_some() || !self.is_within() {
+        if self.refused.is_some() {
+            return Ok(());
+        }
+        if !self.is_within() {
             return Ok(());
         }
         let Some(packet) = self.packets.packet() else {
@@ -138,14 +170,49 @@ impl<'a> PassedVideo<'a> {
 
     /// Whether no more has passed than a program may have.
     fn is_within(&self) -> bool
+        ensures yes { result ≡ true → (PACKET_BYTES * read_of self.now.packets ≤ FILE_BYTES_MOST) × (count_of self.now.packets ≤ PES_PACKETS_MOST) }
+        ensures no { result ≡ false → PACKET_BYTES * read_of self.now.packets ≤ FILE_BYTES_MOST → count_of self.now.packets ≤ PES_PACKETS_MOST → ⊥ }
     {
-        self.packets.packets_read() <= FILE_BYTES_MOST / PACKET_BYTES
+        self.packets.packets_read() <= PACKETS_MOST
             && self.packets.count() <= PES_PACKETS_MOST as u64
     }
 
-    /// Ends the video behind the last packet of a file, which has so many bytes more.
-    fn end(self, rest: usize) -> Result<WalkedVideo, ReadFault>
+    /// Ends the video at the end of a file, which has so many bytes behind its last packet.
+    fn end(self, rest: usize) -> Result<WalkedVideo, ProgramFault>
+        requires place { PACKET_BYTES * read_of self.packets + rest < 2 ^ 64 }
+        requires last { (file : List ℕ) × (pids : List ℕ) × (wanted : SizesWanted) × (ended : List PesUnit) × IsAtLast file pids wanted ended self }
+        ensures { (file pids : List ℕ) (wanted : SizesWanted) (ended : List PesUnit) → IsAtLast file pids wanted ended self.entry → length file ≡ PACKET_BYTES * read_of self.entry.packets + rest →
+            MatchResult result (IsVideoRead file pids wanted) (λ fault. (fault ≡ program_faults.OutOfMemory) ⊎ IsVideoRefused file pids fault) }
     {
-        ...
+        if self.packets.packets_read() * PACKET_BYTES + rest > FILE_BYTES_MOST {
+            return Err(PROGRAM_LIMIT);
+        }
+        if self.has_many() {
+            return Err(PROGRAM_LIMIT);
+        }
+        if let Some(fault) = self.refused {
+            return Err(fault);
+        }
+        let PassedVideo { packets, walk, .. } = self;
+        walk.end(packets.packet())
+    }
+
+    /// Whether there are more PES packets, with the last one, than a program may have of a stream.
+    fn has_many(&self) -> bool
+        requires { count_of self.now.packets + 1 < 2 ^ 64 }
+        ensures yes { result ≡ true → PES_PACKETS_MOST < count_of self.now.packets + length (option_to_list (held_of self.now.packets)) }
+        ensures no { result ≡ false → count_of self.now.packets + length (option_to_list (held_of self.now.packets)) ≤ PES_PACKETS_MOST }
+    {
+        self.packets.count() + self.last_count() > PES_PACKETS_MOST as u64
+    }
+
+    /// 1 where there is a last PES packet, or else 0.
+    fn last_count(&self) -> u64
+        ensures { result ≡ length (option_to_list (held_of self.now.packets)) }
+    {
+        match self.packets.packet() {
+            Some(_) => 1,
+            None => 0,
+        }
     }
 }
