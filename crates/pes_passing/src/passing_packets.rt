@@ -71,7 +71,7 @@ impl PassingPackets {
         ensures refused { (left : Option (List ℕ)) (most : ℕ) (ended : List PesUnit) → HasPassed left (S.left source.old) most (S.most source.old) buffer.old ended self.old →
             IfErr result (λ fault. OnRefused fault (λ refusal. IsMemory refusal
             ⊎ IsEarly left (S.left source.new) most (S.most source.new) buffer.new (λ file. IsFirstStreamFault file (pids_of self.old) refusal))) }
-        ensures same { OnOk result ((pids_of self.new ≡ pids_of self.old) × (index_of self.new ≡ index_of self.old)) }
+        ensures same { OnOk result ((pids_of self.new ≡ pids_of self.old) × (index_of self.new ≡ index_of self.old) × (read_of self.old ≤ read_of self.new)) }
         ensures causes { SourceCauses S.faults S.absences (IsErrOf result (Outside Fault.Failed)) (IsErrOf result (Outside Fault.Missing)) source.old source.new }
         ensures keeps { S.keeps source.old source.new }
     {

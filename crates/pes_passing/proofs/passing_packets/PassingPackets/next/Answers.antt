@@ -15,6 +15,7 @@ loop-fault-init g c = record {
   turned = c.in-Ok.ensures.begun;
   pids = refl;
   index = refl;
+  grows = omega arith;
   faults = omega arith;
   absences = omega arith;
   keeps = g.met.S.Source.keeps_itself c.args.source.now;
@@ -34,6 +35,7 @@ loop-fault-preserved g c =
       turned = subst (λ (ends : Bool). Holds ends new) c.in-Ok-false.field-0-test said.holds;
       pids = said.same.0 ∙ inv.pids;
       index = said.same.1 ∙ inv.index;
+      grows = omega (arith, inv.grows, said.same.2);
       faults = omega (arith, inv.faults, c.in-Ok-fill.ensures.causes.faults_grow);
       absences = omega (arith, inv.absences, c.in-Ok-fill.ensures.causes.absences_grow);
       keeps = g.met.S.Source.keeps_on c.args.source.now c.loop-fault.source c.fill.new.source inv.keeps c.in-Ok-fill.ensures.keeps;
@@ -68,7 +70,13 @@ returns-in_default-clause-passed g c left most ended was =
     c.loop-fault.buffer c.fill.new.self ended c.loop-fault.self (inv.passed left most ended was) c.in-Ok-fill.ensures.passes short (c.in-Ok-fill.ensures.full short) inv.turned
 
 pub returns-in_default-clause-same : goal.returns-in_default-clause-same
-returns-in_default-clause-same g c = (c.loop-fault.invariant.pids, c.loop-fault.invariant.index)
+returns-in_default-clause-same g c = (c.loop-fault.invariant.pids, c.loop-fault.invariant.index, c.loop-fault.invariant.grows)
+
+pub returns-in-Ok-true-clause-same : goal.returns-in-Ok-true-clause-same
+returns-in-Ok-true-clause-same g c =
+    let inv = c.loop-fault.invariant in
+    let said = c.in-Ok-true.ensures in
+    (said.same.0 ∙ inv.pids, said.same.1 ∙ inv.index, omega (arith, inv.grows, said.same.2))
 
 pub returns-in-Ok-true-clause-passed : goal.returns-in-Ok-true-clause-passed
 returns-in-Ok-true-clause-passed g c left most ended was =

@@ -11,6 +11,7 @@ invariant-loop-fault g l = record {
   turned : l.self.pes.begun ≡ None;
   pids : pids_of l.self ≡ pids_of l.fn.self;
   index : l.self.index ≡ l.fn.self.index;
+  grows : l.fn.self.read ≤ l.self.read;
   faults : g.S.Source.faults l.fn.source ≤ g.S.Source.faults l.source;
   absences : g.S.Source.absences l.fn.source ≤ g.S.Source.absences l.source;
   keeps : g.S.Source.keeps l.fn.source l.source;
