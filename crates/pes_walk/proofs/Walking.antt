@@ -34,7 +34,7 @@ gathered_start (c ∷ carried) x starts =
 -- ---- a payload that goes on
 
 -- the last packet goes on
-abbrev longer : List Gathered → CarriedPayload → List Gathered
+abbrev pub longer : List Gathered → CarriedPayload → List Gathered
 longer [] x = []
 longer (p ∷ []) x = with_more x p ∷ []
 longer (p ∷ q ∷ ps) x = p ∷ longer (q ∷ ps) x
@@ -70,13 +70,13 @@ longer_all : (s : Bool) (c x : CarriedPayload) (up new : List ℕ) (ps qs : List
 longer_all true c x up new ps qs is are = longer_first c x up new ps qs is are
 longer_all false c x up new ps qs is are = are
 
-gathered_on : (carried : List CarriedPayload) (x : CarriedPayload) → is_start x.payload ≡ false → gathered (carried ++ x ∷ []) ≡ longer (gathered carried) x
+pub gathered_on : (carried : List CarriedPayload) (x : CarriedPayload) → is_start x.payload ≡ false → gathered (carried ++ x ∷ []) ≡ longer (gathered carried) x
 gathered_on [] x none = ap (λ (s : Bool). cond s (from_first x [] ∷ []) []) none
 gathered_on (c ∷ carried) x none =
     longer_all (is_start c.payload) c x (up_to_start carried) (up_to_start (carried ++ x ∷ [])) (gathered carried) (gathered (carried ++ x ∷ [])) (up_to_more carried x none)
     (gathered_on carried x none)
 
-longer_last : (closed : List Gathered) (p : Gathered) (x : CarriedPayload) → longer (closed ++ p ∷ []) x ≡ closed ++ with_more x p ∷ []
+pub longer_last : (closed : List Gathered) (p : Gathered) (x : CarriedPayload) → longer (closed ++ p ∷ []) x ≡ closed ++ with_more x p ∷ []
 longer_last [] p x = refl
 longer_last (q ∷ []) p x = refl
 longer_last (q ∷ r ∷ closed) p x = ap (λ (ps : List Gathered). q ∷ ps) (longer_last (r ∷ closed) p x)

@@ -1,0 +1,4 @@
+pub mod Splitting
+pub mod Standing
+pub mod Passing
+pub mod Demuxed

@@ -1,0 +1,2 @@
+pub mod PassingPackets
+pub mod Private

@@ -1,0 +1,7 @@
+//! Tests of `PassingPackets` over files of packets by hand, out of sources that give them in pieces.
+//!
+//! They stand in a crate of their own, so that a change here proves nothing below again. Stands on `pes_passing`.
+#![tactic(auto)]
+
+#[cfg(test)]
+mod passing_tests;
