@@ -79,7 +79,7 @@ packet_passed left mid after most most_mid most_after held held_after ended ende
 pub refused_early : (left mid after : Option (List ℕ)) (most most_mid most_after : ℕ) (held held_after : List ℕ) (ended : List PesUnit) (old : PassingPackets) (pids : List ℕ)
     (fault : DemuxFault) → HasPassed left mid most most_mid held ended old → Passes mid after most_mid most_after held [] held_after → 188 ≤ length held_after → pids_of old ≡ pids
     → ((file : List ℕ) (ended : List PesUnit) → old.read < piece_count file → take 188 held_after ≡ piece_at file old.read
-        → StandsIn file ended old → IsFirstStreamFault file (pids_of old) fault)
+    → StandsIn file ended old → IsFirstStreamFault file (pids_of old) fault)
     → IsEarly left after most most_after (drop 188 held_after) (λ file. IsFirstStreamFault file pids fault)
 refused_early left mid after most most_mid most_after held held_after ended old pids fault was filled some pids_are first =
     let packet = take 188 held_after in
