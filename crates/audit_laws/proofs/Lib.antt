@@ -1,0 +1,9 @@
+pub mod Arrivals
+pub mod Clock
+pub mod Found
+pub mod Gathered
+pub mod Headers
+pub mod Places
+pub mod Removed
+pub mod Sections
+pub mod Video

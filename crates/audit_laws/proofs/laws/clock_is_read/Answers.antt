@@ -1,0 +1,8 @@
+use Rattle.audit_laws.proofs.Clock.{has-clock}
+use Rattle.audit_laws.proofs.laws.clock_is_read.Goals as goal
+
+pub returns-clause-zero : goal.returns-clause-zero
+returns-clause-zero c file list slot pid base read counted clock = (has-clock file list slot pid base read counted clock).zero_is
+
+pub returns-clause-off : goal.returns-clause-off
+returns-clause-off c file list slot pid base read counted clock = (has-clock file list slot pid base read counted clock).off_is

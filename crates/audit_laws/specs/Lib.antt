@@ -1,0 +1,4 @@
+pub mod Carried
+pub mod Found
+pub mod Headers
+pub mod Kept
