@@ -19,6 +19,7 @@ check_calls job certificate told (statuses.Unschedulable miss) calls = calls
 check_calls job certificate told statuses.ReadFault calls = calls
 check_calls job certificate told statuses.WriteFault calls = calls
 check_calls job certificate told statuses.OutOfMemory calls = calls
+check_calls job certificate told (statuses.AuditFault finding) calls = calls
 check_calls job certificate told statuses.NoFit calls = calls
 
 -- and may be refused for
@@ -33,6 +34,7 @@ check_may statuses.WriteFault may = may
 check_may (statuses.CertRefused refusal) may = tt
 check_may statuses.Missing may = may
 check_may statuses.OutOfMemory may = may
+check_may (statuses.AuditFault finding) may = may
 check_may statuses.NoFit may = may
 
 pub check_reads_job : (job certificate : List ℕ) → ReadsJob (check_task job certificate) job (files_of_check job certificate)

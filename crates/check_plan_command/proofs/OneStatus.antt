@@ -107,6 +107,7 @@ check_plan_calls_for_one reading certs table certificate files (statuses.Unsched
 check_plan_calls_for_one reading certs table certificate files statuses.ReadFault t a b = absurd a
 check_plan_calls_for_one reading certs table certificate files statuses.WriteFault t a b = absurd a
 check_plan_calls_for_one reading certs table certificate files statuses.OutOfMemory t a b = absurd a
+check_plan_calls_for_one reading certs table certificate files (statuses.AuditFault finding) t a b = absurd a
 check_plan_calls_for_one reading certs table certificate files statuses.NoFit t a b = absurd a
 check_plan_calls_for_one reading certs table certificate files s statuses.Usage a b = absurd b
 check_plan_calls_for_one reading certs table certificate files s (statuses.SourceRefused fault) a b = absurd b
@@ -114,4 +115,5 @@ check_plan_calls_for_one reading certs table certificate files s (statuses.Unsch
 check_plan_calls_for_one reading certs table certificate files s statuses.ReadFault a b = absurd b
 check_plan_calls_for_one reading certs table certificate files s statuses.WriteFault a b = absurd b
 check_plan_calls_for_one reading certs table certificate files s statuses.OutOfMemory a b = absurd b
+check_plan_calls_for_one reading certs table certificate files s (statuses.AuditFault finding) a b = absurd b
 check_plan_calls_for_one reading certs table certificate files s statuses.NoFit a b = absurd b

@@ -2,7 +2,7 @@
 use Rattle.std.proofs.Common.{◌≡◌, ◌+◌, ◌≤◌, ℕ, List, Option, Some, None, max, sym, subst, arith}
 use Rattle.job_programs.specs.Told.{CountReads}
 use Rattle.job_report.specs.Report.{report_line}
-use Rattle.run_report.specs.Report.{source_report}
+use Rattle.run_report.specs.Report.{finding_report, source_report}
 use Rattle.shelf_io.specs.Asked.{AsksUpTo, AsksNothing}
 use Rattle.shelf_io.specs.Causes.{ReadCauses, WriteCauses}
 use Rattle.shelf_io.specs.Counts.{ShelfCounts}
@@ -48,6 +48,8 @@ cause_later task old middle new statuses.Missing line same before after cause =
     ))
     (rose_later _ _ _ before.absences_grow after.absences_grow) cause
 cause_later task old middle new statuses.OutOfMemory line same before after cause = cause
+cause_later task old middle new (statuses.AuditFault finding) line same before after cause =
+    subst (λ (told : Option Files). Refuses task told (statuses.AuditFault finding) (report_line (finding_report finding)) line) same cause
 cause_later task old middle new statuses.NoFit line same before after cause = subst (λ (told : Option Files). TellsNoFit task told line) same cause
 
 -- of answers

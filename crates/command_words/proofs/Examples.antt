@@ -2,9 +2,9 @@
 use Rattle.std.proofs.Common.{◌≡◌, ◌<◌, ◌^◌, ℕ, true, List, [], ◌∷◌, length, get_or, decimal, codes, refl, sym, ap, ◌∙◌, lit<, lit≤, arith}
 use Rattle.std.specs.Str.{all_ascii_digits}
 use Rattle.std.specs.Str.Parse.{digits_value}
-use Rattle.std.proofs.lemmas.Fmt.{decimal_digit, decimal_is_IsNumeral, decimal-digits_value}
+use Rattle.std.proofs.lemmas.Fmt.{decimal_digit, decimal_injective, decimal_is_IsNumeral, decimal-digits_value}
 use Rattle.std.proofs.lemmas.Str.Parse.{numerals_by_value, tells_all_ascii_digits}
-use Rattle.command_words.specs.Command.{Plan, Gen, Run, Check, Probe, CheckPlan, Impossible, Fit, IsCommand, IsGenCommand, IsProbeCommand}
+use Rattle.command_words.specs.Command.{Plan, Gen, Run, Check, Probe, CheckPlan, Impossible, Fit, Audit, IsCommand, IsAuditCommand, IsGenCommand, IsProbeCommand}
 use Rattle.command_words.proofs.Decimals.{decimal_begins_plainly, number_within, pictures_within}
 use Rattle.command_words.proofs.OneCommand.{other_length, other_verb}
 
@@ -45,6 +45,7 @@ are_of_gen seed pictures out (Check job certificate, said) = let are = said.word
 are_of_gen seed pictures out (CheckPlan table certificate, said) = let are = said.words_are in cc
 are_of_gen seed pictures out (Impossible table, said) = let are = said.words_are in cc
 are_of_gen seed pictures out (Fit job list, said) = let are = said.words_are in cc
+are_of_gen seed pictures out (Audit file number slot, said) = absurd (other_verb 103 97 refl said.words_are refl refl (λ same. omega (arith, same)))
 are_of_gen seed pictures out (Probe file number table, said) = absurd (other_verb 103 112 refl said.words_are refl refl (λ same. omega (arith, same)))
 
 -- they have the decimal of a number below 2^64 in the second
@@ -114,6 +115,7 @@ are_of_probe file number table (Check job certificate, said) = let are = said.wo
 are_of_probe file number table (CheckPlan text certificate, said) = let are = said.words_are in cc
 are_of_probe file number table (Impossible text, said) = let are = said.words_are in cc
 are_of_probe file number table (Fit job list, said) = let are = said.words_are in cc
+are_of_probe file number table (Audit name program slot, said) = absurd (other_verb 112 97 refl said.words_are refl refl (λ same. omega (arith, same)))
 are_of_probe file number table (Probe name program made, said) = (name, program, made, said)
 
 -- program 0, which names the network PID
@@ -170,6 +172,7 @@ one_file_for_both (Gen seed pictures out, said) = let are = said.words_are in cc
 one_file_for_both (Run job out certificate, said) = let are = said.words_are in cc
 one_file_for_both (Probe file number table, said) = let are = said.words_are in cc
 one_file_for_both (Impossible table, said) = let are = said.words_are in cc
+one_file_for_both (Audit file number slot, said) = let are = said.words_are in cc
 one_file_for_both (Fit job list, said) = absurd (other_verb 99 102 refl said.words_are refl refl (λ same. omega (arith, same)))
 one_file_for_both (Check job certificate, said) = absurd (other_length 10 5 refl said.words_are refl refl (λ same. omega (arith, same)))
 one_file_for_both (CheckPlan table certificate, said) =
@@ -193,6 +196,7 @@ no_name (Run job out certificate, said) = let are = said.words_are in cc
 no_name (Check job certificate, said) = let are = said.words_are in cc
 no_name (Probe file number table, said) = let are = said.words_are in cc
 no_name (CheckPlan table certificate, said) = let are = said.words_are in cc
+no_name (Audit file number slot, said) = let are = said.words_are in cc
 no_name (Fit job list, said) = let are = said.words_are in cc
 
 -- ---- fit
@@ -213,8 +217,58 @@ one_file_for_job_and_list (Probe file number table, said) = let are = said.words
 one_file_for_job_and_list (Impossible table, said) = let are = said.words_are in cc
 one_file_for_job_and_list (Check job certificate, said) = absurd (other_verb 102 99 refl said.words_are refl refl (λ same. omega (arith, same)))
 one_file_for_job_and_list (CheckPlan table certificate, said) = absurd (other_verb 102 99 refl said.words_are refl refl (λ same. omega (arith, same)))
+one_file_for_job_and_list (Audit file number slot, said) = let are = said.words_are in cc
 one_file_for_job_and_list (Fit job list, said) =
     let are = said.words_are in
     let first : job ≡ codes "a" = cc in
     let second : list ≡ codes "a" = cc in
     said.apart (first ∙ sym second)
+
+-- ---- audit
+
+-- the words `audit a 1 SLOT`
+abbrev audit_words : (slot : List ℕ) → List (List ℕ)
+audit_words slot = codes "audit" ∷ codes "a" ∷ codes "1" ∷ slot ∷ []
+
+-- the longest slot
+longest_slot : IsCommand (audit_words (codes "40000"))
+longest_slot =
+    let number = one in
+    let slot : decimal 40000 ≡ codes "40000" = decimal_of (codes "40000") refl (lit< tt) (λ e. absurd (omega (arith, e))) (lit< tt) in (
+      Audit (codes "a") 1 40000,
+      record { words_are = cc; some_number = lit≤ tt; number_most = lit≤ tt; slot_least = lit≤ tt; slot_most = lit≤ tt; file_named = λ e. let none = e in cc },
+    )
+
+-- words of a command that begin with `audit` are those of `audit`
+are_of_audit : (file number slot : List ℕ) → IsCommand (codes "audit" ∷ file ∷ number ∷ slot ∷ [])
+    → (name : List ℕ) × (program ticks : ℕ) × IsAuditCommand (codes "audit" ∷ file ∷ number ∷ slot ∷ []) name program ticks
+are_of_audit file number slot (Plan text certificate, said) = let are = said.words_are in cc
+are_of_audit file number slot (Gen start count name, said) = absurd (other_verb 97 103 refl said.words_are refl refl (λ same. omega (arith, same)))
+are_of_audit file number slot (Run job stream certificate, said) = absurd (other_verb 97 114 refl said.words_are refl refl (λ same. omega (arith, same)))
+are_of_audit file number slot (Check job certificate, said) = let are = said.words_are in cc
+are_of_audit file number slot (Probe name program table, said) = absurd (other_verb 97 112 refl said.words_are refl refl (λ same. omega (arith, same)))
+are_of_audit file number slot (CheckPlan text certificate, said) = let are = said.words_are in cc
+are_of_audit file number slot (Impossible text, said) = let are = said.words_are in cc
+are_of_audit file number slot (Fit job list, said) = let are = said.words_are in cc
+are_of_audit file number slot (Audit name program ticks, said) = (name, program, ticks, said)
+
+-- a slot that is spelled so is the number
+slot_of : (slot : List ℕ) (n : ℕ) → n < 2 ^ 64 → decimal n ≡ slot → IsCommand (audit_words slot) → (1016 ≤ n) × (n ≤ 40000)
+slot_of slot n small is command =
+    let (name, program, ticks, said) = are_of_audit _ _ _ command in
+    let are = said.words_are in
+    let words : decimal ticks ≡ decimal n = cc in
+    let same : ticks ≡ n = decimal_injective ticks n (omega (arith, said.slot_most)) small words in
+    (omega (arith, same, said.slot_least), omega (arith, same, said.slot_most))
+
+-- one tick less than the shortest
+slot_too_short : IsCommand (audit_words (codes "1015")) → ⊥
+slot_too_short command =
+    let is : decimal 1015 ≡ codes "1015" = decimal_of (codes "1015") refl (lit< tt) (λ e. absurd (omega (arith, e))) (lit< tt) in
+    omega (arith, (slot_of _ 1015 (lit< tt) is command).0)
+
+-- and one more than the longest
+slot_too_long : IsCommand (audit_words (codes "40001")) → ⊥
+slot_too_long command =
+    let is : decimal 40001 ≡ codes "40001" = decimal_of (codes "40001") refl (lit< tt) (λ e. absurd (omega (arith, e))) (lit< tt) in
+    omega (arith, (slot_of _ 40001 (lit< tt) is command).1)

@@ -1,7 +1,7 @@
 -- Words say one command.
 use Rattle.std.proofs.Common.{◌≡◌, ℕ, List, [], ◌∷◌, Option, Some, None, length, decimal, refl, sym, ap, ◌∙◌, arith}
 use Rattle.std.proofs.lemmas.Fmt.{decimal_injective}
-use Rattle.command_words.specs.Command.{Command, Plan, Gen, Run, Check, Probe, CheckPlan, Impossible, Fit, IsSaid}
+use Rattle.command_words.specs.Command.{Command, Plan, Gen, Run, Check, Probe, CheckPlan, Impossible, Fit, Audit, IsSaid}
 
 -- the first letter of the verb
 abbrev pub initial : List (List ℕ) → ℕ
@@ -112,6 +112,30 @@ one_command words (Some (Fit job list)) (Some (CheckPlan text cert)) a b = absur
 one_command words (Some (CheckPlan text cert)) (Some (Fit job list)) a b = absurd (other_verb 99 102 a.words_are b.words_are refl refl (λ same. omega (arith, same)))
 one_command words (Some (Fit job list)) (Some (Impossible table)) a b = absurd (other_verb 102 105 a.words_are b.words_are refl refl (λ same. omega (arith, same)))
 one_command words (Some (Impossible table)) (Some (Fit job list)) a b = absurd (other_verb 105 102 a.words_are b.words_are refl refl (λ same. omega (arith, same)))
+one_command words (Some (Audit file number slot)) (Some (Audit name count ticks)) a b =
+    let x = a.words_are in
+    let y = b.words_are in
+    let number_words : decimal number ≡ decimal count = cc in
+    let slot_words : decimal slot ≡ decimal ticks = cc in
+    let numbers : number ≡ count = decimal_injective number count (omega (arith, a.number_most)) (omega (arith, b.number_most)) number_words in
+    let slots : slot ≡ ticks = decimal_injective slot ticks (omega (arith, a.slot_most)) (omega (arith, b.slot_most)) slot_words in
+    cc
+one_command words (Some (Audit file number slot)) (Some (Plan table certificate)) a b = absurd (other_verb 97 112 a.words_are b.words_are refl refl (λ same. omega (arith, same)))
+one_command words (Some (Plan table certificate)) (Some (Audit file number slot)) a b = absurd (other_verb 112 97 a.words_are b.words_are refl refl (λ same. omega (arith, same)))
+one_command words (Some (Audit file number slot)) (Some (Gen seed pictures out)) a b = absurd (other_verb 97 103 a.words_are b.words_are refl refl (λ same. omega (arith, same)))
+one_command words (Some (Gen seed pictures out)) (Some (Audit file number slot)) a b = absurd (other_verb 103 97 a.words_are b.words_are refl refl (λ same. omega (arith, same)))
+one_command words (Some (Audit file number slot)) (Some (Run job out certificate)) a b = absurd (other_verb 97 114 a.words_are b.words_are refl refl (λ same. omega (arith, same)))
+one_command words (Some (Run job out certificate)) (Some (Audit file number slot)) a b = absurd (other_verb 114 97 a.words_are b.words_are refl refl (λ same. omega (arith, same)))
+one_command words (Some (Audit file number slot)) (Some (Check job certificate)) a b = absurd (other_verb 97 99 a.words_are b.words_are refl refl (λ same. omega (arith, same)))
+one_command words (Some (Check job certificate)) (Some (Audit file number slot)) a b = absurd (other_verb 99 97 a.words_are b.words_are refl refl (λ same. omega (arith, same)))
+one_command words (Some (Audit file number slot)) (Some (Probe name count table)) a b = absurd (other_verb 97 112 a.words_are b.words_are refl refl (λ same. omega (arith, same)))
+one_command words (Some (Probe name count table)) (Some (Audit file number slot)) a b = absurd (other_verb 112 97 a.words_are b.words_are refl refl (λ same. omega (arith, same)))
+one_command words (Some (Audit file number slot)) (Some (CheckPlan table certificate)) a b = absurd (other_verb 97 99 a.words_are b.words_are refl refl (λ same. omega (arith, same)))
+one_command words (Some (CheckPlan table certificate)) (Some (Audit file number slot)) a b = absurd (other_verb 99 97 a.words_are b.words_are refl refl (λ same. omega (arith, same)))
+one_command words (Some (Audit file number slot)) (Some (Impossible table)) a b = absurd (other_verb 97 105 a.words_are b.words_are refl refl (λ same. omega (arith, same)))
+one_command words (Some (Impossible table)) (Some (Audit file number slot)) a b = absurd (other_verb 105 97 a.words_are b.words_are refl refl (λ same. omega (arith, same)))
+one_command words (Some (Audit file number slot)) (Some (Fit job list)) a b = absurd (other_verb 97 102 a.words_are b.words_are refl refl (λ same. omega (arith, same)))
+one_command words (Some (Fit job list)) (Some (Audit file number slot)) a b = absurd (other_verb 102 97 a.words_are b.words_are refl refl (λ same. omega (arith, same)))
 one_command words (Some a) None said none = absurd (none (a, said))
 one_command words None (Some b) none said = absurd (none (b, said))
 one_command words None None a b = refl

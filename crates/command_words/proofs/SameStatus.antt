@@ -20,4 +20,5 @@ is_ok statuses.ReadFault same = same
 is_ok statuses.WriteFault same = same
 is_ok statuses.Missing same = same
 is_ok statuses.OutOfMemory same = same
+is_ok (statuses.AuditFault finding) same = same
 is_ok statuses.NoFit same = same

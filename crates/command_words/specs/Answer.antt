@@ -5,9 +5,9 @@ use Rattle.shelf_io.specs.Files.{Files, Lacks}
 use Rattle.job_report.specs.Report.{report_line}
 use Rattle.job_report.specs.declared.report.Report.TheVariants as reports
 use Rattle.job_report.specs.declared.report.SlotVerdict.{SlotVerdict}
-use Rattle.run_report.specs.Report.{source_report}
+use Rattle.run_report.specs.Report.{finding_report, source_report}
 use Rattle.command_words.specs.declared.status.Status.{Status}
-use Rattle.command_words.specs.declared.status.Status.TheVariants.{Ok, Usage, JobRefused, SourceRefused, Unschedulable, ReadFault, WriteFault, CertRefused, Missing, OutOfMemory, NoFit}
+use Rattle.command_words.specs.declared.status.Status.TheVariants.{Ok, Usage, JobRefused, SourceRefused, Unschedulable, ReadFault, WriteFault, CertRefused, Missing, OutOfMemory, AuditFault, NoFit}
 use Rattle.command_words.specs.Outside.{ShelfFacts}
 use Rattle.command_words.specs.Report.{cert_report, refusal_report, miss_report}
 use Rattle.command_words.specs.Task.{Task}
@@ -69,6 +69,7 @@ HasCause task old new Missing line =
     FailsAt (λ name. IsReadFile task old.files name × Lacks old.files name) (Rose old.counts.absences new.counts.absences)
     (λ name. report_line (reports.Missing name)) line new
 HasCause task old new OutOfMemory line = ⊥
+HasCause task old new (AuditFault finding) line = Refuses task old.files (AuditFault finding) (report_line (finding_report finding)) line
 HasCause task old new NoFit line = TellsNoFit task old.files line
 
 -- an answer has its cause; to end without one for want of memory needs none

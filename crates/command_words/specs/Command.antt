@@ -2,6 +2,7 @@
 use Rattle.std.specs.Prelude.{◌≡◌, ◌≢◌, ◌<◌, ◌≤◌, ◌^◌, ℕ, List, [], ◌∷◌, Option, Some, None, codes, decimal}
 use Rattle.job_report.specs.declared.limits.TheConstants.{NUMBER_MOST}
 use Rattle.program_maker.specs.declared.format.TheConstants.{PICTURES_MOST}
+use Rattle.version_table.specs.declared.limits.TheConstants.{SLOT_LEAST, SLOT_MOST}
 
 -- a command with its numbers and the names of its files
 pub data Command : Type 0 where
@@ -21,6 +22,8 @@ pub data Command : Type 0 where
   Impossible : (table : List ℕ) → Command
   -- in which slots of a list the programs of a job fit
   Fit : (job list : List ℕ) → Command
+  -- judge one program of a file by the decoder's model, in slots of so many ticks
+  Audit : (file : List ℕ) → (number slot : ℕ) → Command
 
 -- the words `plan TABLE CERT`: two different file names that aren't empty
 pub record IsPlanCommand (words : List (List ℕ)) (table certificate : List ℕ) : Type 0 where
@@ -84,6 +87,16 @@ pub record IsFitCommand (words : List (List ℕ)) (job list : List ℕ) : Type 0
   pub list_named : list ≢ []
   pub apart : job ≢ list
 
+-- the words `audit FILE PROGRAM SLOT`: a file name that isn't empty, and a number from 1 to 65,535 and the ticks of a slot, from 1,016 to 40,000, both in
+-- decimal without sign or needless leading zero
+pub record IsAuditCommand (words : List (List ℕ)) (file : List ℕ) (number slot : ℕ) : Type 0 where
+  pub words_are : words ≡ codes "audit" ∷ file ∷ decimal number ∷ decimal slot ∷ []
+  pub some_number : 1 ≤ number
+  pub number_most : number ≤ NUMBER_MOST
+  pub slot_least : SLOT_LEAST ≤ slot
+  pub slot_most : slot ≤ SLOT_MOST
+  pub file_named : file ≢ []
+
 -- the words of a command
 abbrev pub IsWordsOf : Command → List (List ℕ) → Type 0
 IsWordsOf (Plan table certificate) words = IsPlanCommand words table certificate
@@ -94,6 +107,7 @@ IsWordsOf (Probe file number table) words = IsProbeCommand words file number tab
 IsWordsOf (CheckPlan table certificate) words = IsCheckPlanCommand words table certificate
 IsWordsOf (Impossible table) words = IsImpossibleCommand words table
 IsWordsOf (Fit job list) words = IsFitCommand words job list
+IsWordsOf (Audit file number slot) words = IsAuditCommand words file number slot
 
 -- the words are those of a command
 abbrev pub IsCommand : List (List ℕ) → Type 0

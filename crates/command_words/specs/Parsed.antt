@@ -10,7 +10,8 @@ use Rattle.command_words.specs.declared.command.ProbeWords.{ProbeWords}
 use Rattle.command_words.specs.declared.command.CheckPlanFiles.{CheckPlanFiles}
 use Rattle.command_words.specs.declared.command.ImpossibleFiles.{ImpossibleFiles}
 use Rattle.command_words.specs.declared.command.FitFiles.{FitFiles}
-use Rattle.command_words.specs.Command.{Command, Plan, Gen, Run, Check, Probe, CheckPlan, Impossible, Fit}
+use Rattle.command_words.specs.declared.command.AuditWords.{AuditWords}
+use Rattle.command_words.specs.Command.{Command, Plan, Gen, Run, Check, Probe, CheckPlan, Impossible, Fit, Audit}
 
 -- the command of `plan` with these names
 abbrev pub plan_of : PlanFiles → Option Command
@@ -44,6 +45,10 @@ impossible_of files = Some (Impossible files.table.now)
 abbrev pub fit_of : FitFiles → Option Command
 fit_of files = Some (Fit files.job.now files.list.now)
 
+-- the command of `audit` with this name and these numbers
+abbrev pub audit_of : AuditWords → Option Command
+audit_of words = Some (Audit words.file.now words.program words.slot)
+
 -- the command that was parsed
 abbrev pub command_of : Option Parsed → Option Command
 command_of (Some (parsed.Plan files)) = plan_of files
@@ -54,4 +59,5 @@ command_of (Some (parsed.Probe words)) = probe_of words
 command_of (Some (parsed.CheckPlan files)) = check_plan_of files
 command_of (Some (parsed.Impossible files)) = impossible_of files
 command_of (Some (parsed.Fit files)) = fit_of files
+command_of (Some (parsed.Audit words)) = audit_of words
 command_of None = None

@@ -4,7 +4,7 @@ use Rattle.serde_json.specs.Find.{get}
 use Rattle.job_report.specs.Report.{json_number, report_object, report_line}
 use Rattle.job_report.specs.declared.report.Report.{Report}
 use Rattle.command_words.specs.declared.status.Status.{Status}
-use Rattle.command_words.specs.declared.status.Status.TheVariants.{Ok, Usage, JobRefused, SourceRefused, Unschedulable, ReadFault, WriteFault, CertRefused, Missing, OutOfMemory, NoFit}
+use Rattle.command_words.specs.declared.status.Status.TheVariants.{Ok, Usage, JobRefused, SourceRefused, Unschedulable, ReadFault, WriteFault, CertRefused, Missing, OutOfMemory, AuditFault, NoFit}
 use Rattle.command_words.specs.declared.status.JobRefusal.{JobRefusal}
 use Rattle.command_words.specs.declared.status.JobRefusal.TheVariants.{TableSyntax, TableLimit, JobSyntax, JobField, JobLimit, ListSyntax}
 
@@ -20,6 +20,7 @@ code_of WriteFault = 7
 code_of (CertRefused refusal) = 8
 code_of Missing = 9
 code_of OutOfMemory = 10
+code_of (AuditFault finding) = 11
 code_of NoFit = 12
 
 -- two refusals of a text are the same, names compared by their bytes

@@ -3,10 +3,11 @@ ghost use Rattle.std.specs.String.{string_bytes};
 ghost use Rattle.command_words.specs.Command.{IsCheckCommand, IsCheckPlanCommand, IsFitCommand, IsImpossibleCommand, IsPlanCommand, IsRunCommand, IsSaid};
 ghost use Rattle.command_words.specs.Decimal.{IsDecimal};
 ghost use Rattle.command_words.specs.Parsed.{command_of};
-ghost use Rattle.command_words.specs.Private.Parsed.{IsGenSaid, IsProbeSaid};
+ghost use Rattle.command_words.specs.Private.Parsed.{IsAuditSaid, IsDecimalWithin, IsGenSaid, IsProbeSaid};
 
 use job_report::limits::NUMBER_MOST;
 use program_maker::PICTURES_MOST;
+use version_table::limits::{SLOT_LEAST, SLOT_MOST};
 
 /// A command as its words say it.
 #[derive(Clone, Copy)]
@@ -19,6 +20,7 @@ pub enum Parsed<'a> {
     CheckPlan(CheckPlanFiles<'a>),
     Impossible(ImpossibleFiles<'a>),
     Fit(FitFiles<'a>),
+    Audit(AuditWords<'a>),
 }
 
 /// The file names of `plan TABLE CERT`.
@@ -95,6 +97,17 @@ pub struct FitFiles<'a> {
     pub job: &'a str,
     /// The list of slots.
     pub list: &'a str,
+}
+
+/// The words of `audit FILE PROGRAM SLOT`.
+#[derive(Clone, Copy)]
+pub struct AuditWords<'a> {
+    /// The transport stream.
+    pub file: &'a str,
+    /// The program_number of the program that is judged, at least 1.
+    pub program: u16,
+    /// Ticks of a packet slot, 1,016 to 40,000.
+    pub slot: u32,
 }
 
 /// The command that words say; none where they are those of no command.
@@ -203,7 +216,10 @@ fn parse_three<'a>(
         Some(words) => Some(Parsed::Gen(words)),
         None => match parse_probe(verb, first, second, third) {
             Some(words) => Some(Parsed::Probe(words)),
-            None => None,
+            None => match parse_audit(verb, first, second, third) {
+                Some(words) => Some(Parsed::Audit(words)),
+                None => None,
+            },
         },
     }
 }
@@ -280,11 +296,43 @@ fn parse_probe<'a>(
     })
 }
 
+/// The words `audit FILE PROGRAM SLOT`, where four words are these.
+fn parse_audit<'a>(
+    verb: &str,
+    file: &'a str,
+    program: &str,
+    slot: &str,
+) -> Option<AuditWords<'a>>
+    ensures { IsAuditSaid (verb.now ∷ file.now ∷ program.now ∷ slot.now ∷ []) result }
+{
+    if verb != "audit" || file.is_empty() {
+        return None;
+    }
+    let program = decimal_within(program, 1, NUMBER_MOST as u64)?;
+    let slot = decimal_within(slot, SLOT_LEAST as u64, SLOT_MOST as u64)?;
+    Some(AuditWords {
+        file,
+        program: program as u16,
+        slot: slot as u32,
+    })
+}
+
 /// Whether two names are different, and none of them is empty.
 fn are_two_names(first: &str, second: &str) -> bool
     ensures { IsTrue result ↔ (first.now ≢ []) × (second.now ≢ []) × (first.now ≢ second.now) }
 {
     !first.is_empty() && !second.is_empty() && first != second
+}
+
+/// The number from `least` to `most` that a word is in decimal, without sign or needless leading zero.
+fn decimal_within(word: &str, least: u64, most: u64) -> Option<u64>
+    ensures { IsDecimalWithin word.now least most result }
+{
+    let n = decimal_number(word)?;
+    if n < least || n > most {
+        return None;
+    }
+    Some(n)
 }
 
 /// The number below 2^64 that a word is in decimal, without sign or needless leading zero.

@@ -11,7 +11,7 @@ mod report;
 mod status;
 
 pub use command::{
-    CheckFiles, CheckPlanFiles, FitFiles, GenWords, ImpossibleFiles, Parsed, PlanFiles, ProbeWords,
+    AuditWords, CheckFiles, CheckPlanFiles, FitFiles, GenWords, ImpossibleFiles, Parsed, PlanFiles, ProbeWords,
     RunFiles, decimal_number, parse,
 };
 pub use ended::{Ended, end_missing, end_refused_source, end_unread, end_unwritten, end_with};

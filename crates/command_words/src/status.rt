@@ -5,6 +5,7 @@ use arrayvec::ArrayString;
 use certificate_checker::CertFault;
 use job_programs::SourceFault;
 use slot_rule::Miss;
+use stream_audit::Finding;
 
 /// Why the text of a table, a job or a list of slots is refused.
 #[derive(Clone, Copy)]
@@ -55,6 +56,8 @@ pub enum Status {
     Missing,
     /// Memory was wanted and not there.
     OutOfMemory,
+    /// A stream breaks the decoder's model, and this is where it does first.
+    AuditFault(Finding),
     /// The job fits in none of the slots of the list.
     NoFit,
 }
@@ -75,6 +78,7 @@ impl Status {
             Status::CertRefused(_) => 8,
             Status::Missing => 9,
             Status::OutOfMemory => 10,
+            Status::AuditFault(_) => 11,
             Status::NoFit => 12,
         }
     }

@@ -252,6 +252,7 @@ fit_calls_for_one laws name list files statuses.Missing (statuses.SourceRefused 
     let m = came_missing files name list a.0 a.1 a.2 in let same = one_kind laws files name list m.0 (bad_program b.0 b.1 b_fault b.2 b.3) in absurd (omega (arith, same, m.1))
 fit_calls_for_one laws name list files statuses.Missing statuses.Missing a b = refl
 fit_calls_for_one laws name list files statuses.Usage t a b = absurd a
+fit_calls_for_one laws name list files (statuses.AuditFault finding) t a b = absurd a
 fit_calls_for_one laws name list files (statuses.JobRefused (TableSyntax n)) t a b = absurd a
 fit_calls_for_one laws name list files (statuses.JobRefused (TableLimit field)) t a b = absurd a
 fit_calls_for_one laws name list files (statuses.Unschedulable miss) t a b = absurd a
@@ -259,6 +260,7 @@ fit_calls_for_one laws name list files statuses.ReadFault t a b = absurd a
 fit_calls_for_one laws name list files statuses.WriteFault t a b = absurd a
 fit_calls_for_one laws name list files (statuses.CertRefused refusal) t a b = absurd a
 fit_calls_for_one laws name list files statuses.OutOfMemory t a b = absurd a
+fit_calls_for_one laws name list files s (statuses.AuditFault finding) a b = absurd b
 fit_calls_for_one laws name list files s statuses.Usage a b = absurd b
 fit_calls_for_one laws name list files s (statuses.JobRefused (TableSyntax n)) a b = absurd b
 fit_calls_for_one laws name list files s (statuses.JobRefused (TableLimit field)) a b = absurd b

@@ -18,6 +18,7 @@ gen_calls_for_ok statuses.ReadFault a = absurd a
 gen_calls_for_ok statuses.WriteFault a = absurd a
 gen_calls_for_ok statuses.Missing a = absurd a
 gen_calls_for_ok statuses.OutOfMemory a = absurd a
+gen_calls_for_ok (statuses.AuditFault finding) a = absurd a
 gen_calls_for_ok statuses.NoFit a = absurd a
 
 -- so it calls for one status

@@ -15,6 +15,7 @@ pub fn command_help(verb: &str) -> Option<&'static str>
         "check-plan" => Some(CHECK_PLAN),
         "impossible" => Some(IMPOSSIBLE),
         "probe" => Some(PROBE),
+        "audit" => Some(AUDIT),
         "gen" => Some(GEN),
         _ => None,
     }
@@ -196,6 +197,36 @@ Exit status:
 Example:
   remux gen 1 12 a.ts
   remux probe a.ts 1 table.txt
+";
+
+const AUDIT: &str = "remux audit FILE PROGRAM SLOT
+
+Judges one program of a transport stream of constant rate by the model of the decoder (ISO/IEC 13818-1, 2.4.2): whether its
+clock references are on that rate, no buffer overflows, each picture and audio frame is there when it is decoded, no byte
+stays longer than a second, and each transport buffer is empty once in a second.
+
+Files:
+  FILE    is read: a transport stream of 188-byte packets, at most 536870912 bytes
+  PROGRAM is the program_number in FILE, 1 to 65535: `ffprobe FILE` shows each as \"Program\"
+  SLOT    is how many ticks of 1/27000000 s a packet lasts, 1016 to 40000: 40608000000 / SLOT bits a second
+
+Prints one line of JSON: audit, which is clean; or fault, pid and at, what breaks the model first, and where.
+
+Exit status:
+  0  nothing is found
+  2  the name is empty, or PROGRAM or SLOT is no such number
+  4  the program is refused: the line has its kind and place
+  6  FILE can't be read
+  7  standard output can't be written
+  9  FILE isn't there
+  10 memory is wanting
+  11 the stream breaks the model: the line has what is found first
+
+Example:
+  remux gen 1 12 a.ts
+  printf 'slot = 4000\\n[[program]]\\nfile = \"a.ts\"\\nprogram = 1\\nnumber = 1\\n' > job.toml
+  remux run job.toml out.ts run.cert
+  remux audit out.ts 1 4000
 ";
 
 const GEN: &str = "remux gen SEED PICTURES OUT

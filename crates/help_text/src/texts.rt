@@ -15,6 +15,9 @@ pub const HELP: &str = "remux: a statistical remultiplexer for MPEG-2 whose prom
   remux probe FILE PROGRAM TABLE
                           writes the table of pictures of the program with the program_number PROGRAM (1 to 65535)
                           of the transport stream FILE to TABLE, for slots of 4000 ticks
+  remux audit FILE PROGRAM SLOT
+                          judges the program with the program_number PROGRAM of the transport stream FILE, whose packets
+                          last SLOT ticks (1016 to 40000) each, by the buffers and clock of the decoder's model
   remux gen SEED PICTURES OUT
                           writes the generated program of SEED (0 to 18446744073709551615) with PICTURES
                           pictures (1 to 4096), a transport stream for trials, to OUT
@@ -25,7 +28,8 @@ pub const HELP: &str = "remux: a statistical remultiplexer for MPEG-2 whose prom
 Each command prints one line of JSON. The file names of a command are different. The exit status is 0 where the work was
 done, 2 for other words, 3 for a refused table, job or list, 4 for a refused program, 5 where the smallest choice
 can't be scheduled, 6 where a file can't be read, 7 where one can't be written, 8 for a refused
-certificate, 9 where a file is missing, 10 where memory is wanting, and 12 where a job fits in no slot of a list.
+certificate, 9 where a file is missing, 10 where memory is wanting, 11 where a stream breaks the decoder's model, and 12
+where a job fits in no slot of a list.
 For each status but 0 a sentence on standard error says what is wrong, and docs/REFUSALS.md what to do. docs/JOB.md has
 the job's text and that of a list, docs/TABLE.md the table's, docs/CERTIFICATE.md the certificate's bytes,
 docs/FORMATS.md the report's keys.

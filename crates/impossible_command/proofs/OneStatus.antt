@@ -27,6 +27,7 @@ impossible_calls_for_one reading name files (statuses.CertRefused refusal) t a b
 impossible_calls_for_one reading name files statuses.ReadFault t a b = absurd a
 impossible_calls_for_one reading name files statuses.WriteFault t a b = absurd a
 impossible_calls_for_one reading name files statuses.OutOfMemory t a b = absurd a
+impossible_calls_for_one reading name files (statuses.AuditFault finding) t a b = absurd a
 impossible_calls_for_one reading name files statuses.NoFit t a b = absurd a
 impossible_calls_for_one reading name files s statuses.Usage a b = absurd b
 impossible_calls_for_one reading name files s (statuses.SourceRefused fault) a b = absurd b
@@ -35,4 +36,5 @@ impossible_calls_for_one reading name files s (statuses.CertRefused refusal) a b
 impossible_calls_for_one reading name files s statuses.ReadFault a b = absurd b
 impossible_calls_for_one reading name files s statuses.WriteFault a b = absurd b
 impossible_calls_for_one reading name files s statuses.OutOfMemory a b = absurd b
+impossible_calls_for_one reading name files s (statuses.AuditFault finding) a b = absurd b
 impossible_calls_for_one reading name files s statuses.NoFit a b = absurd b

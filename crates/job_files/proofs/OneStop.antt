@@ -4,7 +4,7 @@ use Rattle.std.specs.FinMap.{get}
 use Rattle.job_programs.specs.declared.source_fault.SourceFault.{SourceFault}
 use Rattle.shelf_io.specs.Files.{Files}
 use Rattle.command_words.specs.declared.status.Status.{Status}
-use Rattle.command_words.specs.declared.status.Status.TheVariants.{Ok, Usage, JobRefused, SourceRefused, Unschedulable, ReadFault, WriteFault, CertRefused, Missing, OutOfMemory, NoFit}
+use Rattle.command_words.specs.declared.status.Status.TheVariants.{Ok, Usage, JobRefused, SourceRefused, Unschedulable, ReadFault, WriteFault, CertRefused, Missing, OutOfMemory, AuditFault, NoFit}
 use Rattle.command_words.specs.declared.status.JobRefusal.{JobRefusal}
 use Rattle.command_words.specs.declared.status.JobRefusal.TheVariants.{TableSyntax, TableLimit, JobSyntax, JobField, JobLimit, ListSyntax}
 use Rattle.command_words.specs.Status.{IsSameStatus}
@@ -56,6 +56,7 @@ table_or_stop laws files name named made ReadFault a b = b
 table_or_stop laws files name named made WriteFault a b = b
 table_or_stop laws files name named made (CertRefused refusal) a b = b
 table_or_stop laws files name named made OutOfMemory a b = b
+table_or_stop laws files name named made (AuditFault finding) a b = b
 table_or_stop laws files name named made NoFit a b = b
 
 -- a text that is refused has no refused program
@@ -120,6 +121,7 @@ stops_are_one laws files name named ReadFault t a b = absurd a
 stops_are_one laws files name named WriteFault t a b = absurd a
 stops_are_one laws files name named (CertRefused refusal) t a b = absurd a
 stops_are_one laws files name named OutOfMemory t a b = absurd a
+stops_are_one laws files name named (AuditFault finding) t a b = absurd a
 stops_are_one laws files name named NoFit t a b = absurd a
 stops_are_one laws files name named s Ok a b = absurd b
 stops_are_one laws files name named s Usage a b = absurd b
@@ -128,6 +130,7 @@ stops_are_one laws files name named s ReadFault a b = absurd b
 stops_are_one laws files name named s WriteFault a b = absurd b
 stops_are_one laws files name named s (CertRefused refusal) a b = absurd b
 stops_are_one laws files name named s OutOfMemory a b = absurd b
+stops_are_one laws files name named s (AuditFault finding) a b = absurd b
 stops_are_one laws files name named s NoFit a b = absurd b
 
 -- the laws that follow: a job has one table, calls for one status before there is a table, and never for one where there is

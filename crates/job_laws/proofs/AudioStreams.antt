@@ -14,8 +14,9 @@ use Rattle.ts_demux.specs.declared.demuxed.AudioStream.{AudioStream}
 use Rattle.ts_demux.specs.declared.demuxed.PesUnit.{PesUnit}
 use Rattle.program_reader.specs.declared.program.AudioPiece.{AudioPiece}
 use Rattle.program_reader.specs.declared.program.AudioSource.{AudioSource}
-use Rattle.program_reader.specs.Audio.{AreAudioSources, HaveFrames, IsAudioSource, taken_of}
-use Rattle.program_reader.proofs.StreamLemmas.{HasPayload, taken_payloads}
+use Rattle.program_reader.specs.Audio.{AreAudioSources, HaveFrames, IsAudioSource}
+use Rattle.elementary_streams.specs.Audio.{taken_of}
+use Rattle.elementary_streams.proofs.StreamLemmas.{HasPayload, taken_payloads}
 use Rattle.version_source.specs.Pieces.{audio_items, audio_payload}
 use Rattle.layer_laws.specs.PesPieces.{CarryAll}
 use Rattle.parsing_laws.specs.Parsed.{CarriesPackets, CarryPackets, bytes_of_packets}

@@ -14,8 +14,8 @@ use Rattle.ts_demux.specs.Streams.{audios_of, is_among, is_audio, is_carried, is
 use Rattle.program_stream.specs.Streams.{map_stream}
 use Rattle.job_report.specs.declared.job.Form.{Form}
 use Rattle.program_reader.specs.AudioTypes.{typed}
-use Rattle.program_reader.specs.Packets.{joined}
-use Rattle.program_reader.specs.Audio.{taken_of}
+use Rattle.elementary_streams.specs.Packets.{joined}
+use Rattle.elementary_streams.specs.Audio.{taken_of}
 use Rattle.program_reader.specs.Programs.{IsTakenOut, StandIn, in_packets, in_elements}
 use Rattle.program_table.proofs.TakenOut.{typed-streams, typed_stream}
 use Rattle.mux_writer.specs.Layout.{video_pid, with_output_pids, with_pids_from}

@@ -20,7 +20,7 @@ use Rattle.ts_demux.specs.Demux.{IsDemuxed}
 use Rattle.job_report.specs.declared.job.ProgramJob.{ProgramJob}
 use Rattle.job_report.specs.ValidJob.{HaveNumbersApart, IsValidProgramJob}
 use Rattle.program_reader.specs.declared.program.Program.{Program}
-use Rattle.program_reader.specs.Audio.{taken_of}
+use Rattle.elementary_streams.specs.Audio.{taken_of}
 use Rattle.program_reader.specs.Programs.{IsProgramOfFile}
 use Rattle.version_maker.specs.declared.version.UnitVersion.{UnitVersion}
 use Rattle.version_source.specs.Pieces.{audio_items, stream_items, video_items}

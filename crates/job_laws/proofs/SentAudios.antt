@@ -10,12 +10,12 @@ use Rattle.audio_frames.specs.declared.frame.Frame.{Frame}
 use Rattle.pes_units.specs.PesHeader.{header_length}
 use Rattle.pes_units.specs.PesPieces.{pes_pieces, piece_of}
 use Rattle.ts_demux.specs.declared.demuxed.PesUnit.{PesUnit}
-use Rattle.program_reader.specs.declared.pes_packets.PlacedPacket.{PlacedPacket}
+use Rattle.elementary_streams.specs.declared.pes_packets.PlacedPacket.{PlacedPacket}
 use Rattle.program_reader.specs.declared.program.AudioPiece.{AudioPiece}
 use Rattle.program_reader.specs.Audio.{ArePieces, IsPiece, packet_size, piece_size, placed_pieces}
-use Rattle.program_reader.specs.Packets.{pes_payload_of, placed_from}
-use Rattle.program_reader.proofs.StreamLemmas.{HasPayload}
-use Rattle.program_reader.proofs.TakenLemmas.{placed_at}
+use Rattle.elementary_streams.specs.Packets.{pes_payload_of, placed_from}
+use Rattle.elementary_streams.proofs.StreamLemmas.{HasPayload}
+use Rattle.elementary_streams.proofs.TakenLemmas.{placed_at}
 use Rattle.version_source.specs.Pieces.{audio_payload}
 
 -- ---- one piece

@@ -8,7 +8,7 @@ use Rattle.ts_demux.specs.declared.demuxed.Demuxed.{Demuxed}
 use Rattle.ts_demux.specs.Demux.{IsDemuxed}
 use Rattle.program_reader.specs.declared.program.Program.{Program}
 use Rattle.program_reader.specs.declared.program.UnitSource.{UnitSource}
-use Rattle.program_reader.specs.Audio.{taken_of}
+use Rattle.elementary_streams.specs.Audio.{taken_of}
 use Rattle.program_reader.specs.Programs.{IsTakenOut}
 use Rattle.version_maker.specs.declared.version.UnitVersion.{UnitVersion}
 use Rattle.version_source.specs.Versions.{chosen_bytes}

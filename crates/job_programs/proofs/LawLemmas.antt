@@ -31,7 +31,7 @@ abbrev pub NeverBoth : Type 0
 NeverBoth = (form : Form) (file : List ℕ) (number : ℕ) (drop : List ℕ) (start : ℕ) (program : Program) (fault : ProgramFault)
     → IsProgramOfFile form file number drop start program → IsProgramRefused form file number drop fault → fault ≡ OutOfMemory
 
-is-no-memory : (kind : SourceKind) (at : ℕ) → Refused kind at ≢ OutOfMemory
+pub is-no-memory : (kind : SourceKind) (at : ℕ) → Refused kind at ≢ OutOfMemory
 is-no-memory kind at e = cc
 
 -- ---- one program behind others

@@ -11,5 +11,6 @@ mod LawLemmas
 mod FirstLemmas
 mod MissingLemmas
 mod ProbeLaws
+mod AloneLemmas
 mod SizesLemmas
 mod Examples

@@ -21,12 +21,12 @@ in-files : (files : Files) (name front : List ℕ) (n : ℕ) (made : Option (Lis
 in-files files name front n None is holds = absurd holds
 in-files files name front n (Some content) is holds = (content, is, holds)
 
-found : (told : Option Files) (name front : List ℕ) (n : ℕ) → length front ≤ n + 1 → IfTold told name (λ content. front ≡ take (n + 1) content)
+pub found : (told : Option Files) (name front : List ℕ) (n : ℕ) → length front ≤ n + 1 → IfTold told name (λ content. front ≡ take (n + 1) content)
     → (content : List ℕ) × HoldsContent told name content × (front ≡ take (n + 1) content)
 found None name front n short holds = (front, tt, sym (take_all (n + 1) front short))
 found (Some files) name front n short holds = in-files files name front n (get files name) refl holds
 
-is-whole : (bytes n : ℕ) (front content : List ℕ) → bytes + n ≡ FILE_BYTES_MOST → front ≡ take (n + 1) content → bytes + length front ≤ FILE_BYTES_MOST → front ≡ content
+pub is-whole : (bytes n : ℕ) (front content : List ℕ) → bytes + n ≡ FILE_BYTES_MOST → front ≡ take (n + 1) content → bytes + length front ≤ FILE_BYTES_MOST → front ≡ content
 is-whole bytes n front content room is few =
     let size : length front ≡ min (n + 1) (length content) = ap length is ∙ length-take (n + 1) content in
     is ∙ take_all (n + 1) content (omega (arith, room, few, size))

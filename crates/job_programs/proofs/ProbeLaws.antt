@@ -38,7 +38,7 @@ one-probe-refusal one only never slot start number drop content kind kind' at at
     (behind-of slot start [] [] (probed_job number drop) content p next) (refused-behind slot start [] [] (probed_job number drop) content kind' at' r'))
 one-probe-refusal one only never slot start number drop content kind kind' at at' (many_packets _ _ _ k a) (many_packets _ _ _ k' a') = (k ∙ sym k', a ∙ sym a')
 
-same-content : (files : Files) (name c d : List ℕ) → get files name ≡ Some c → get files name ≡ Some d → c ≡ d
+pub same-content : (files : Files) (name c d : List ℕ) → get files name ≡ Some c → get files name ≡ Some d → c ≡ d
 same-content files name c d first second = cc
 
 -- ---- on told files

@@ -1,4 +1,5 @@
 -- What private functions of the crate stand on.
+pub mod Alone
 pub mod Behind
 pub mod Next
 pub mod ReadSoFar

@@ -81,13 +81,18 @@ pub record IsProbeRefusedOn (told : Option Files) (name : List ℕ) (slot start 
   pub held : HoldsContent told name content
   pub refused : IsProbeRefused slot start number drop content fault.kind fault.at
 
--- why a file that is probed has no program: by the same causes
-abbrev pub HasProbeCause : Option Files → (name : List ℕ) → (slot start number : ℕ) → (drop : List ℕ) → (old new : ShelfCounts) → (since_fault : ℕ) → ProgramsFault → Type 0
-HasProbeCause told name slot start number drop old new since_fault (Refused fault) = IsProbeRefusedOn told name slot start number drop fault
-HasProbeCause told name slot start number drop old new since_fault (Failed place) = (place ≡ 0) × Rose old.faults new.faults × (since_fault ≡ 0)
-HasProbeCause told name slot start number drop old new since_fault (Missing place) =
+-- Why a file that is read for one program has none: it is refused; a read failed, where the count of faults rose, or the file isn't held, where the count of
+-- absences rose, and no call followed; or want of memory.
+abbrev pub HasFileCause : (IsRefused : SourceFault → Type 0) → Option Files → (name : List ℕ) → (old new : ShelfCounts) → (since_fault : ℕ) → ProgramsFault → Type 0
+HasFileCause IsRefused told name old new since_fault (Refused fault) = IsRefused fault
+HasFileCause IsRefused told name old new since_fault (Failed place) = (place ≡ 0) × Rose old.faults new.faults × (since_fault ≡ 0)
+HasFileCause IsRefused told name old new since_fault (Missing place) =
     (place ≡ 0) × Lacks told name × Rose old.absences new.absences × (since_fault ≡ 0)
-HasProbeCause told name slot start number drop old new since_fault OutOfMemory = Unit {0}
+HasFileCause IsRefused told name old new since_fault OutOfMemory = Unit {0}
+
+-- why a file that is probed has no program
+abbrev pub HasProbeCause : Option Files → (name : List ℕ) → (slot start number : ℕ) → (drop : List ℕ) → (old new : ShelfCounts) → (since_fault : ℕ) → ProgramsFault → Type 0
+HasProbeCause told name slot start number drop = HasFileCause (IsProbeRefusedOn told name slot start number drop) told name
 
 -- ---- what is asked
 

@@ -5,6 +5,7 @@ ghost use Rattle.shelf_io.specs.Files.{Files};
 ghost use Rattle.job_report.specs.declared.job.Job.{Job};
 ghost use Rattle.program_reader.specs.declared.program.Program.{Program};
 ghost use Rattle.job_programs.specs.declared.source_fault.SourceFault.{SourceFault};
+ghost use Rattle.job_programs.specs.Alone.{IsAloneOn, IsAloneRefusedOn};
 ghost use Rattle.job_programs.specs.Programs.{ArePrograms, IsFirstRefused};
 ghost use Rattle.job_programs.specs.Told.{AreProgramsOn, IsMissingOn, IsProbedOn, IsProbeRefusedOn, IsRefusedOn};
 
@@ -43,6 +44,18 @@ pub fn probed_file_has_one_answer()
         IsProbeRefusedOn (Some files) name slot start number drop one → IsProbeRefusedOn (Some files) name slot start number drop other → one ≡ other }
     ensures never_both { (files : Files) (name : List ℕ) (slot start number : ℕ) (drop : List ℕ) (program : Program) (fault : SourceFault) →
         IsProbedOn (Some files) name slot start number drop program → IsProbeRefusedOn (Some files) name slot start number drop fault → ⊥ }
+{
+    one_answer();
+}
+
+/// A told file whose program is read by itself has one program and one content, or one refusal, and never both.
+pub fn lone_program_has_one_answer()
+    ensures program { (files : Files) (name : List ℕ) (slot start number : ℕ) (content held : List ℕ) (one other : Program) →
+        IsAloneOn (Some files) name slot start number content one → IsAloneOn (Some files) name slot start number held other → (content ≡ held) × (one ≡ other) }
+    ensures refused { (files : Files) (name : List ℕ) (slot start number : ℕ) (one other : SourceFault) →
+        IsAloneRefusedOn (Some files) name slot start number one → IsAloneRefusedOn (Some files) name slot start number other → one ≡ other }
+    ensures never_both { (files : Files) (name : List ℕ) (slot start number : ℕ) (content : List ℕ) (program : Program) (fault : SourceFault) →
+        IsAloneOn (Some files) name slot start number content program → IsAloneRefusedOn (Some files) name slot start number fault → ⊥ }
 {
     one_answer();
 }

@@ -234,7 +234,7 @@ fn sized_program(
 }
 
 /// A limit of this project is passed.
-fn passes_limit() -> ProgramFault
+pub(crate) fn passes_limit() -> ProgramFault
     ensures { result ≡ ProgramFault.Refused SourceKind.ProgramLimit 0 }
 {
     ProgramFault::Refused {

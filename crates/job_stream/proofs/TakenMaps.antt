@@ -19,9 +19,9 @@ use Rattle.program_stream.specs.Split.{IsSplit}
 use Rattle.program_stream.specs.Streams.{carried_audio_ids, first_coming, ids_of, is_carried_audio, map_stream, stream_with_id}
 use Rattle.job_report.specs.declared.job.Form.{Form}
 use Rattle.job_report.specs.declared.job.Form.TheVariants.{Ts, Ps}
-use Rattle.program_reader.specs.AudioTypes.{audio_type, typed}
-use Rattle.program_reader.specs.Packets.{joined}
-use Rattle.program_reader.specs.Audio.{taken_of}
+use Rattle.elementary_streams.specs.Audio.{audio_type, taken_of}
+use Rattle.program_reader.specs.AudioTypes.{typed}
+use Rattle.elementary_streams.specs.Packets.{joined}
 use Rattle.program_reader.specs.Programs.{IsTakenOut, StandIn, in_packets, in_elements}
 use Rattle.program_table.proofs.TakenOut.{of-elements, typed-streams, typed_stream}
 use Rattle.job_stream.proofs.Maps.{HasKind, carried-kinds, carried-writable}

@@ -6,7 +6,7 @@ use Rattle.job_report.specs.declared.limits.TheConstants.{PROBE_SLOT, START_DEFA
 use Rattle.program_reader.specs.declared.program.Program.{Program}
 use Rattle.shelf_io.specs.Files.{Files}
 use Rattle.command_words.specs.declared.status.Status.{Status}
-use Rattle.command_words.specs.declared.status.Status.TheVariants.{Ok, Usage, JobRefused, SourceRefused, Unschedulable, ReadFault, WriteFault, CertRefused, Missing, OutOfMemory, NoFit}
+use Rattle.command_words.specs.declared.status.Status.TheVariants.{Ok, Usage, JobRefused, SourceRefused, Unschedulable, ReadFault, WriteFault, CertRefused, Missing, OutOfMemory, AuditFault, NoFit}
 use Rattle.command_words.specs.Status.{IsSameStatus}
 use Rattle.probe_command.specs.ProbeCommand.{ProbeCallsFor}
 
@@ -36,6 +36,7 @@ probe_calls_for_one laws file number files ReadFault t a b = absurd a
 probe_calls_for_one laws file number files WriteFault t a b = absurd a
 probe_calls_for_one laws file number files (CertRefused refusal) t a b = absurd a
 probe_calls_for_one laws file number files OutOfMemory t a b = absurd a
+probe_calls_for_one laws file number files (AuditFault finding) t a b = absurd a
 probe_calls_for_one laws file number files NoFit t a b = absurd a
 probe_calls_for_one laws file number files s Usage a b = absurd b
 probe_calls_for_one laws file number files s (JobRefused refusal) a b = absurd b
@@ -44,4 +45,5 @@ probe_calls_for_one laws file number files s ReadFault a b = absurd b
 probe_calls_for_one laws file number files s WriteFault a b = absurd b
 probe_calls_for_one laws file number files s (CertRefused refusal) a b = absurd b
 probe_calls_for_one laws file number files s OutOfMemory a b = absurd b
+probe_calls_for_one laws file number files s (AuditFault finding) a b = absurd b
 probe_calls_for_one laws file number files s NoFit a b = absurd b

@@ -7,8 +7,9 @@ use Rattle.ts_demux.specs.declared.demuxed.AudioStream.{AudioStream}
 use Rattle.ts_demux.specs.declared.demuxed.Demuxed.{Demuxed}
 use Rattle.program_stream.specs.Streams.{map_stream}
 use Rattle.job_report.specs.declared.job.Form.{Form}
-use Rattle.program_reader.specs.declared.audio_stream.ReadStream.{ReadStream}
-use Rattle.program_reader.specs.AudioTypes.{audio_type, map_by_form, typed}
+use Rattle.elementary_streams.specs.declared.audio_stream.ReadStream.{ReadStream}
+use Rattle.elementary_streams.specs.Audio.{audio_type}
+use Rattle.program_reader.specs.AudioTypes.{map_by_form, typed}
 
 -- ---- two lists that say the same
 

@@ -10,7 +10,7 @@ use Rattle.es_units.specs.declared.units.Units.{Units}
 use Rattle.es_units.specs.Units.{is_unit_cut, first_sequence, cuts_up_to, cuts_behind, cut_units}
 use Rattle.list_types.specs.Spans.{spans}
 use Rattle.program_reader.specs.Private.KeptUnits.{Fits}
-use Rattle.program_reader.proofs.SizeLemmas.{filter_count}
+use Rattle.elementary_streams.proofs.CarriedSizes.{filter_count}
 
 fits_spans : (test : ℕ → Bool) (n k from end lower : ℕ) → lower ≤ from → from ≤ end → k + n ≤ end → ((at : ℕ) → k ≤ at → test at ≡ true → from ≤ at) →
     Fits end lower (spans from (filter test (range_with_len k n)) end)

@@ -8,7 +8,7 @@ use Rattle.syntax_types.specs.declared.picture.SeqState.{SeqState}
 use Rattle.syntax_types.specs.declared.picture.TheConstants.{B_PICTURE, P_PICTURE}
 use Rattle.pes_units.specs.TimeAxis.{IsUnwrapped}
 use Rattle.picture_grammar.specs.Macroblock.{is_frame}
-use Rattle.program_reader.specs.declared.pes_packets.PlacedPacket.{PlacedPacket}
+use Rattle.elementary_streams.specs.declared.pes_packets.PlacedPacket.{PlacedPacket}
 use Rattle.program_reader.specs.declared.program_fault.ProgramFault.TheVariants.{Refused}
 use Rattle.program_reader.specs.declared.program_fault.SourceKind.TheVariants as kinds
 use Rattle.program_reader.specs.declared.timed_picture.Role.{Role}
@@ -16,7 +16,7 @@ use Rattle.program_reader.specs.declared.timed_picture.Role.TheVariants.{Frame, 
 use Rattle.program_reader.specs.declared.timed_picture.TimedPicture.{TimedPicture}
 use Rattle.program_reader.specs.Intervals.{shown_as, share_of, shown_meanwhile}
 use Rattle.program_reader.specs.Units.{role_behind, IsTimed, HasNoTime, IsCoded, IsUnitRefused}
-use Rattle.program_reader.specs.Packets.{taken, packets_dropped}
+use Rattle.elementary_streams.specs.Packets.{taken, packets_dropped}
 use Rattle.program_reader.specs.Audio.{IsDue, payload_place, piece_places, piece_size}
 use Rattle.pes_units.proofs.WorkedExamples.{only_pts_bytes}
 

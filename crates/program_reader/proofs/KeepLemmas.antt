@@ -62,8 +62,8 @@ use Rattle.picture_grammar.specs.Refusal.{Refusal}
 use Rattle.picture_laws.proofs.SpelledStates.{state-of_unit}
 use Rattle.program_reader.specs.declared.kept_units.KeptUnit.{KeptUnit}
 use Rattle.program_reader.specs.declared.kept_units.KeptUnits.{KeptUnits}
-use Rattle.program_reader.specs.declared.pes_packets.PlacedPacket.{PlacedPacket}
-use Rattle.program_reader.specs.declared.pes_packets.TakenPackets.{TakenPackets}
+use Rattle.elementary_streams.specs.declared.pes_packets.PlacedPacket.{PlacedPacket}
+use Rattle.elementary_streams.specs.declared.pes_packets.TakenPackets.{TakenPackets}
 use Rattle.program_reader.specs.declared.picture_times.StampedPicture.{StampedPicture}
 use Rattle.program_reader.specs.declared.program_fault.ProgramFault.{ProgramFault}
 use Rattle.program_reader.specs.declared.program_fault.ProgramFault.TheVariants.{OutOfMemory}
@@ -72,23 +72,22 @@ use Rattle.program_reader.specs.declared.timed_picture.Role.TheVariants.{Frame, 
 use Rattle.program_reader.specs.declared.timed_picture.TimedPicture.{TimedPicture}
 use Rattle.program_reader.specs.declared.unit_picture.TimedUnit.{TimedUnit}
 use Rattle.program_reader.specs.KeptUnits.{row_of, AreRows, first_of}
-use Rattle.program_reader.specs.Packets.{pes_payload_of, joined, placed_from}
+use Rattle.elementary_streams.specs.Packets.{pes_payload_of, joined, placed_from}
 use Rattle.es_units.specs.Pictures.{first_picture}
 use Rattle.program_reader.specs.PictureTimes.{is_first_picture_in, no_times, times_at, times_of_unit}
 use Rattle.program_reader.specs.Intervals.{frame_period, frame_shown, is_b, nearest, share_of, shown_as, shown_meanwhile}
 use Rattle.program_reader.specs.Units.{unit_bytes, state_behind, ticks_behind, IsTimed, IsNext, IsBroken, IsUnitRefused}
 use Rattle.program_reader.specs.Units.{AreInOrder, last_of, is_none_left, IsUnitsFault, AreKept}
-use Rattle.program_reader.specs.Private.AudioStarts.{IsNear}
-use Rattle.program_reader.specs.Private.Dues.{IsTime}
+use Rattle.elementary_streams.specs.NearTimes.{IsNear, IsTime}
 use Rattle.program_reader.specs.Private.KeptUnits.{IsVideo, Fits, far, IsPictureNear, Keep, AreUnitsKept}
 use Rattle.program_reader.specs.Private.StampedPictures.{stamp_at, stamps_of, times_of_stamp, AreRising, TellTimes, IsCounted}
 use Rattle.program_reader.specs.Private.TimedPictures.{IsPossible, IsFound, IsShown, LastTells}
 use Rattle.program_reader.proofs.ReferenceLemmas.{before_is, before_shown, behind_is, behind_shown}
-use Rattle.program_reader.proofs.StartLemmas.{near_step, near_more, near_low, near_high}
+use Rattle.elementary_streams.proofs.StartLemmas.{near_step, near_more, near_low, near_high}
 use Rattle.program_reader.proofs.StampLemmas.{times_stamped, stamps_rise, tells_later}
-use Rattle.program_reader.proofs.StreamLemmas.{placed_times}
-use Rattle.program_reader.proofs.TakenLemmas.{placed_at}
-use Rattle.program_reader.proofs.TimeRange.{IsInRange}
+use Rattle.elementary_streams.proofs.StreamLemmas.{placed_times}
+use Rattle.elementary_streams.proofs.TakenLemmas.{placed_at}
+use Rattle.elementary_streams.proofs.TimeRange.{IsInRange}
 use Rattle.program_reader.proofs.UnitLemmas.{may_precede}
 
 -- ---- one more at the end

@@ -3,10 +3,8 @@ pub mod CarryLemmas
 pub mod CutLemmas
 pub mod DueLemmas
 pub mod FrameLemmas
-pub mod FrameTimes
 pub mod IntervalExamples
 pub mod KeepLemmas
-pub mod OneAudio
 pub mod OnePicture
 pub mod OneProgram
 pub mod OneUnits
@@ -15,19 +13,15 @@ pub mod PassedLemmas
 pub mod PlaceLemmas
 pub mod ProgramLemmas
 pub mod ReferenceLemmas
-pub mod StartLemmas
 pub mod StatedTimes
-pub mod StreamLemmas
 pub mod StreamsLemmas
 pub mod SameTimes
 pub mod SizedLemmas
 pub mod SizeLemmas
 pub mod SourceLemmas
 pub mod StampLemmas
-pub mod TakenLemmas
 pub mod TimesWalked
 pub mod UnitLemmas
-pub mod TimeRange
 pub mod WalkEnds
 pub mod WalkLemmas
 mod CarryExamples

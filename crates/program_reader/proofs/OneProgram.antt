@@ -1,30 +1,23 @@
 -- A file has one program, or one refusal, and never both.
-use Rattle.std.proofs.Common.{◌≡◌, ◌≢◌, ◌⊎◌, ℕ, ◌+◌, ◌-◌, ◌^◌, ◌<◌, min, Bool, true, false, List, [], ◌∷◌, ◌++◌, length, All, None, Some, refl, sym, ap, ap₂, ◌∙◌, subst, inl, inr, arith, ℤ, pos, ◌+ℤ◌, ◌-ℤ◌, ◌*ℤ◌, ◌≤ℤ◌}
+use Rattle.std.proofs.Common.{◌≡◌, ◌≢◌, ◌⊎◌, ℕ, ◌+◌, ◌-◌, ◌^◌, ◌<◌, min, Bool, true, List, [], ◌∷◌, ◌++◌, length, None, Some, refl, sym, ap, ap₂, ◌∙◌, subst, inl, inr, arith, ℤ, pos, ◌+ℤ◌, ◌-ℤ◌, ◌*ℤ◌, ◌≤ℤ◌}
 use Rattle.std.proofs.lemmas.Int.{ints}
-use Rattle.std.proofs.lemmas.List.Elements.{All-tail, All-contains}
-use Rattle.audio_frames.specs.declared.audio_fault.AudioFault.{AudioFault}
-use Rattle.audio_frames.specs.declared.audio_fault.AudioFault.TheVariants as audio_faults
+use Rattle.std.proofs.lemmas.List.Elements.{All-contains}
 use Rattle.audio_frames.specs.declared.frame.Frame.{Frame}
-use Rattle.audio_frames.specs.declared.pes_start.PesStart.{PesStart}
-use Rattle.audio_frames.specs.Times.{AreFramesOf, IsAudioRefused}
 use Rattle.es_units.specs.declared.units.Units.{Units}
-use Rattle.pes_units.specs.declared.pes_fault.PesFault.{PesFault}
 use Rattle.pes_units.specs.declared.times.Times.{Times}
-use Rattle.pes_units.specs.PesPackets.{packet_refusal}
 use Rattle.picture_grammar.specs.Refusal.{Refusal}
 use Rattle.psi_tables.specs.declared.program_map.ProgramMap.{ProgramMap}
 use Rattle.ts_demux.specs.declared.demux_fault.DemuxFault.{DemuxFault}
 use Rattle.ts_demux.specs.declared.demux_fault.DemuxFault.TheVariants as demux_faults
 use Rattle.ts_demux.specs.declared.demuxed.AudioStream.{AudioStream}
 use Rattle.ts_demux.specs.declared.demuxed.Demuxed.{Demuxed}
-use Rattle.ts_demux.specs.declared.demuxed.PesUnit.{PesUnit}
 use Rattle.ts_demux.proofs.OneAnswer as demux_answers
 use Rattle.program_stream.specs.declared.split_fault.SplitFault.{SplitFault}
 use Rattle.program_stream.specs.declared.split_fault.SplitFault.TheVariants as split_faults
 use Rattle.program_stream.proofs.OneAnswer as split_answers
 use Rattle.job_report.specs.declared.job.Form.{Form}
 use Rattle.job_report.specs.declared.job.Form.TheVariants.{Ts, Ps}
-use Rattle.program_reader.specs.declared.pes_packets.PlacedPacket.{PlacedPacket}
+use Rattle.elementary_streams.specs.declared.pes_packets.PlacedPacket.{PlacedPacket}
 use Rattle.program_reader.specs.declared.program.AudioPiece.{AudioPiece}
 use Rattle.program_reader.specs.declared.program.AudioSource.{AudioSource}
 use Rattle.program_reader.specs.declared.program.Program.{Program}
@@ -33,106 +26,20 @@ use Rattle.program_reader.specs.declared.program_fault.ProgramFault.{ProgramFaul
 use Rattle.program_reader.specs.declared.program_fault.ProgramFault.TheVariants.{Refused, OutOfMemory}
 use Rattle.program_reader.specs.declared.timed_picture.Role.{Role}
 use Rattle.program_reader.specs.declared.timed_picture.TimedPicture.{TimedPicture}
-use Rattle.program_reader.specs.Faults.{of_demux, of_split, of_pes, of_audio}
-use Rattle.program_reader.specs.Packets.{fault_before, AreSound, IsPacketFault, joined, placed_from}
+use Rattle.program_reader.specs.Faults.{of_demux, of_split, of_stream}
+use Rattle.elementary_streams.specs.declared.stream_fault.StreamFault.{StreamFault}
+use Rattle.elementary_streams.specs.declared.stream_fault.StreamFault.TheVariants as stream_faults
 use Rattle.program_reader.specs.Units.{AreKept, but_last, IsBroken, IsUnitsFault}
-use Rattle.program_reader.specs.Audio.{taken_of, HasFrames, IsStreamRefused, bad_packet, bad_frames, HaveFrames, IsAudioFault, IsDue, ArePieces, placed_pieces, AreAudioSources}
+use Rattle.elementary_streams.specs.Audio.{taken_of, HasFrames, IsStreamRefused}
+use Rattle.elementary_streams.specs.Packets.{AreSound, placed_from}
+use Rattle.program_reader.specs.Audio.{HaveFrames, IsAudioFault, IsDue, ArePieces, placed_pieces, AreAudioSources}
 use Rattle.program_reader.specs.AudioTypes.{typed}
 use Rattle.program_reader.specs.Programs as programs
-use Rattle.program_reader.specs.Programs.{
-  StandIn,
-  IsTakenOut,
-  HasFewPackets,
-  video_bytes,
-  video_packets,
-  HasUnits,
-  HasNoSequence,
-  HasPictures,
-  all_times,
-  IsEarliest,
-  clock_round,
-  IsBase,
-  AreUnitSources,
-  all_packets_dropped,
-  IsProgram,
-  IsProgramOfFile,
-  IsDemuxedRefused,
-  AreStreamsRefused,
-  IsProgramRefused,
-}
-use Rattle.program_reader.proofs.OneAudio.{starts_one, frames_one, refused_one, refused_or_frames}
+use Rattle.program_reader.specs.Programs.{StandIn, IsTakenOut, HasFewPackets, video_bytes, video_packets, HasUnits, HasNoSequence, HasPictures, all_times, IsEarliest, IsBase, AreUnitSources, all_packets_dropped, IsProgram, IsProgramOfFile, IsDemuxedRefused, AreStreamsRefused, IsProgramRefused}
+use Rattle.elementary_streams.proofs.OneStream.{packet_fault_one, refused_or_has, sound_or_fault, stream_frames_one, stream_refused_one}
 use Rattle.program_reader.proofs.OneUnits.{kept_one, kept_or_fault, units_fault_one}
 
--- ---- PES packets
-
--- the first packet with a fault, packet by packet
-abbrev BadFrom : Bool → List PesUnit → ProgramFault → Type 0
-BadFrom video [] fault = ⊥
-BadFrom video (packet ∷ more) fault =
-    ((found : PesFault) × (fault_before video more packet ≡ Some found) × (fault ≡ of_pes packet.at found)) ⊎ ((fault_before video more packet ≡ None) × BadFrom video more fault)
-
-behind_others : (video : Bool) (packet other : PesUnit) (front more : List PesUnit) → fault_before video (front ++ other ∷ more) packet ≡ packet_refusal video packet.bytes
-behind_others video packet other [] more = refl
-behind_others video packet other (x ∷ xs) more = refl
-
-bad_from : (video : Bool) (front : List PesUnit) (packet : PesUnit) (more : List PesUnit) (fault : ProgramFault) (found : PesFault) →
-    All (λ earlier. packet_refusal video earlier.bytes ≡ None) front → fault_before video more packet ≡ Some found → fault ≡ of_pes packet.at found → BadFrom video (front ++ packet ∷ more) fault
-bad_from video [] packet more fault found sound is e = inl (found, is, e)
-bad_from video (x ∷ xs) packet more fault found sound is e =
-    let rest : All (λ earlier. packet_refusal video earlier.bytes ≡ None) xs = All-tail (λ (earlier : PesUnit). packet_refusal video earlier.bytes ≡ None) x xs sound in
-    inr (behind_others video x packet xs more ∙ sound 0 x (omega arith), bad_from video xs packet more fault found rest is e)
-
-packet_fault_from : (video : Bool) (packets : List PesUnit) (fault : ProgramFault) → IsPacketFault video packets fault → BadFrom video packets fault
-packet_fault_from video packets fault is =
-    subst (λ (ps : List PesUnit). BadFrom video ps fault) (sym is.split) (bad_from video is.before is.packet is.more fault is.found is.sound is.refused is.fault_is)
-
-sound_or_bad : (video : Bool) (packets : List PesUnit) (fault : ProgramFault) → AreSound video packets → BadFrom video packets fault → ⊥
-sound_or_bad video [] fault sound is = is
-sound_or_bad video (p ∷ ps) fault sound (inl (found, is, e)) = let both : None ≡ Some found = sym sound.0 ∙ is in cc
-sound_or_bad video (p ∷ ps) fault sound (inr (none, rest)) = sound_or_bad video ps fault sound.1 rest
-
-bad_one : (video : Bool) (packets : List PesUnit) (a b : ProgramFault) → BadFrom video packets a → BadFrom video packets b → a ≡ b
-bad_one video [] a b is is' = absurd is
-bad_one video (p ∷ ps) a b (inl (found, is, e)) (inl (found', is', e')) =
-    let same : Some found ≡ Some found' = sym is ∙ is' in
-    let founds : found ≡ found' = cc in
-    e ∙ ap (of_pes p.at) founds ∙ sym e'
-bad_one video (p ∷ ps) a b (inl (found, is, e)) (inr (none, rest)) = absurd (let both : None ≡ Some found = sym none ∙ is in cc)
-bad_one video (p ∷ ps) a b (inr (none, rest)) (inl (found, is, e)) = absurd (let both : None ≡ Some found = sym none ∙ is in cc)
-bad_one video (p ∷ ps) a b (inr (none, rest)) (inr (none', rest')) = bad_one video ps a b rest rest'
-
-sound_or_fault : (video : Bool) (packets : List PesUnit) (fault : ProgramFault) → AreSound video packets → IsPacketFault video packets fault → ⊥
-sound_or_fault video packets fault sound is = sound_or_bad video packets fault sound (packet_fault_from video packets fault is)
-
-packet_fault_one : (video : Bool) (packets : List PesUnit) (a b : ProgramFault) → IsPacketFault video packets a → IsPacketFault video packets b → a ≡ b
-packet_fault_one video packets a b is is' = bad_one video packets a b (packet_fault_from video packets a is) (packet_fault_from video packets b is')
-
 -- ---- audio streams
-
-stream_frames_one : (first : ℤ) (stream : AudioStream) (fs gs : List Frame) → HasFrames first stream fs → HasFrames first stream gs → fs ≡ gs
-stream_frames_one first stream fs gs has has' =
-    let starts : has.starts ≡ has'.starts = starts_one first (placed_from 0 (taken_of stream)) has.starts has'.starts has.starts_are has'.starts_are in
-    frames_one (joined (taken_of stream)) has'.starts fs gs (subst (λ (ss : List PesStart). AreFramesOf (joined (taken_of stream)) ss fs) starts has.frames_are) has'.frames_are
-
-known : (fault : ProgramFault) (found : AudioFault) → fault ≢ OutOfMemory → fault ≡ of_audio found → found ≢ audio_faults.OutOfMemory
-known fault found some is none = some (is ∙ ap of_audio none)
-
-refused_or_has : (first : ℤ) (stream : AudioStream) (fault : ProgramFault) (fs : List Frame) → fault ≢ OutOfMemory → IsStreamRefused first stream fault → HasFrames first stream fs → ⊥
-refused_or_has first stream fault fs some (bad_packet is) has = sound_or_fault false stream.units fault has.sound is
-refused_or_has first stream fault fs some (bad_frames starts found sound are is e) has =
-    let same : starts ≡ has.starts = starts_one first (placed_from 0 (taken_of stream)) starts has.starts are has.starts_are in
-    let refused : IsAudioRefused (joined (taken_of stream)) has.starts found = subst (λ (ss : List PesStart). IsAudioRefused (joined (taken_of stream)) ss found) same is in
-    refused_or_frames (joined (taken_of stream)) has.starts found fs (known fault found some e) refused has.frames_are
-
-stream_refused_one : (first : ℤ) (stream : AudioStream) (a b : ProgramFault) → a ≢ OutOfMemory → b ≢ OutOfMemory → IsStreamRefused first stream a → IsStreamRefused first stream b → a ≡ b
-stream_refused_one first stream a b some some' (bad_packet is) (bad_packet is') = packet_fault_one false stream.units a b is is'
-stream_refused_one first stream a b some some' (bad_packet is) (bad_frames starts found sound are is' e) = absurd (sound_or_fault false stream.units a sound is)
-stream_refused_one first stream a b some some' (bad_frames starts found sound are is e) (bad_packet is') = absurd (sound_or_fault false stream.units b sound is')
-stream_refused_one first stream a b some some' (bad_frames starts found sound are is e) (bad_frames starts' found' sound' are' is' e') =
-    let same : starts ≡ starts' = starts_one first (placed_from 0 (taken_of stream)) starts starts' are are' in
-    let founds : found ≡ found' = refused_one (joined (taken_of stream)) starts' found found' (known a found some e) (known b found' some' e')
-    (subst (λ (ss : List PesStart). IsAudioRefused (joined (taken_of stream)) ss found) same is) is' in
-    e ∙ ap of_audio founds ∙ sym e'
 
 have_frames_one : (first : ℤ) (streams : List AudioStream) (fs gs : List (List Frame)) → HaveFrames first streams fs → HaveFrames first streams gs → fs ≡ gs
 have_frames_one first [] [] [] have have' = refl
@@ -146,30 +53,35 @@ have_frames_one first (s ∷ ss) (f ∷ fs) (g ∷ gs) have have' =
 -- the first stream that is refused, stream by stream
 abbrev RefusedFrom : ℤ → List AudioStream → ProgramFault → Type 0
 RefusedFrom first [] fault = ⊥
-RefusedFrom first (stream ∷ streams) fault = IsStreamRefused first stream fault ⊎ ((frames : List Frame) × HasFrames first stream frames × RefusedFrom first streams fault)
+RefusedFrom first (stream ∷ streams) fault =
+    ((found : StreamFault) × IsStreamRefused first stream found × (fault ≡ of_stream found)) ⊎ ((frames : List Frame) × HasFrames first stream frames × RefusedFrom first streams fault)
 
-refused_from : (first : ℤ) (front : List AudioStream) (stream : AudioStream) (more : List AudioStream) (frames : List (List Frame)) (fault : ProgramFault) → HaveFrames first front frames →
-    IsStreamRefused first stream fault → RefusedFrom first (front ++ stream ∷ more) fault
-refused_from first [] stream more frames fault have is = inl is
-refused_from first (s ∷ ss) stream more [] fault have is = absurd have
-refused_from first (s ∷ ss) stream more (f ∷ fs) fault have is = inr (f, have.0, refused_from first ss stream more fs fault have.1 is)
+refused_from : (first : ℤ) (front : List AudioStream) (stream : AudioStream) (more : List AudioStream) (frames : List (List Frame)) (found : StreamFault) (fault : ProgramFault) →
+    HaveFrames first front frames → IsStreamRefused first stream found → fault ≡ of_stream found → RefusedFrom first (front ++ stream ∷ more) fault
+refused_from first [] stream more frames found fault have is said = inl (found, is, said)
+refused_from first (s ∷ ss) stream more [] found fault have is said = absurd have
+refused_from first (s ∷ ss) stream more (f ∷ fs) found fault have is said = inr (f, have.0, refused_from first ss stream more fs found fault have.1 is said)
 
 audio_fault_from : (first : ℤ) (streams : List AudioStream) (fault : ProgramFault) → IsAudioFault first streams fault → RefusedFrom first streams fault
 audio_fault_from first streams fault is =
-    subst (λ (ss : List AudioStream). RefusedFrom first ss fault) (sym is.split) (refused_from first is.before is.stream is.more is.frames fault is.have is.refused)
+    subst (λ (ss : List AudioStream). RefusedFrom first ss fault) (sym is.split) (refused_from first is.before is.stream is.more is.frames is.found fault is.have is.refused is.fault_is)
+
+known : (fault : ProgramFault) (found : StreamFault) → fault ≢ OutOfMemory → fault ≡ of_stream found → found ≢ stream_faults.OutOfMemory
+known fault found some is none = some (is ∙ ap of_stream none)
 
 from_one : (first : ℤ) (streams : List AudioStream) (a b : ProgramFault) → a ≢ OutOfMemory → b ≢ OutOfMemory → RefusedFrom first streams a → RefusedFrom first streams b → a ≡ b
 from_one first [] a b some some' is is' = absurd is
-from_one first (s ∷ ss) a b some some' (inl is) (inl is') = stream_refused_one first s a b some some' is is'
-from_one first (s ∷ ss) a b some some' (inl is) (inr (fs, has, rest)) = absurd (refused_or_has first s a fs some is has)
-from_one first (s ∷ ss) a b some some' (inr (fs, has, rest)) (inl is) = absurd (refused_or_has first s b fs some' is has)
+from_one first (s ∷ ss) a b some some' (inl (found, is, e)) (inl (found', is', e')) =
+    e ∙ ap of_stream (stream_refused_one first s found found' (known a found some e) (known b found' some' e') is is') ∙ sym e'
+from_one first (s ∷ ss) a b some some' (inl (found, is, e)) (inr (fs, has, rest)) = absurd (refused_or_has first s found fs (known a found some e) is has)
+from_one first (s ∷ ss) a b some some' (inr (fs, has, rest)) (inl (found, is, e)) = absurd (refused_or_has first s found fs (known b found some' e) is has)
 from_one first (s ∷ ss) a b some some' (inr (fs, has, rest)) (inr (gs, has', rest')) = from_one first ss a b some some' rest rest'
 
 have_or_from : (first : ℤ) (streams : List AudioStream) (frames : List (List Frame)) (fault : ProgramFault) → fault ≢ OutOfMemory → HaveFrames first streams frames →
     RefusedFrom first streams fault → ⊥
 have_or_from first [] frames fault some have is = is
 have_or_from first (s ∷ ss) [] fault some have is = absurd have
-have_or_from first (s ∷ ss) (f ∷ fs) fault some have (inl is) = refused_or_has first s fault f some is have.0
+have_or_from first (s ∷ ss) (f ∷ fs) fault some have (inl (found, is, e)) = refused_or_has first s found f (known fault found some e) is have.0
 have_or_from first (s ∷ ss) (f ∷ fs) fault some have (inr (gs, has, rest)) = have_or_from first ss fs fault some have.1 rest
 
 -- ---- the video
@@ -401,7 +313,7 @@ module _ (demuxed : Demuxed) where
       (audio_fault_from first'.stated demuxed.audios fault (subst (λ (p : TimedPicture). IsAudioFault p.stated demuxed.audios fault) same.firsts is))
 
   refused_or_program : (start : ℕ) (program : Program) (fault : ProgramFault) → fault ≢ OutOfMemory → IsDemuxedRefused demuxed fault → IsProgram start demuxed program → ⊥
-  refused_or_program start program fault some (programs.bad_packet is) p = sound_or_fault true demuxed.video fault p.has_pictures.has_units.sound is
+  refused_or_program start program fault some (programs.bad_packet found is said) p = sound_or_fault true demuxed.video found p.has_pictures.has_units.sound is
   refused_or_program start program fault some (programs.no_sequence none e) p =
       sequence_or_pictures demuxed p.kept p.first p.pictures program.units_dropped none p.has_pictures
   refused_or_program start program fault some (programs.bad_unit units has is) p =
@@ -414,19 +326,20 @@ module _ (demuxed : Demuxed) where
       omega (arith, count, many, p.few)
 
   demuxed_refused_one : (a b : ProgramFault) → a ≢ OutOfMemory → b ≢ OutOfMemory → IsDemuxedRefused demuxed a → IsDemuxedRefused demuxed b → a ≡ b
-  demuxed_refused_one a b some some' (programs.bad_packet is) (programs.bad_packet is') = packet_fault_one true demuxed.video a b is is'
-  demuxed_refused_one a b some some' (programs.bad_packet is) (programs.no_sequence none e) = absurd (sound_or_fault true demuxed.video a none.0 is)
-  demuxed_refused_one a b some some' (programs.bad_packet is) (programs.bad_unit units has is') = absurd (sound_or_fault true demuxed.video a has.sound is)
-  demuxed_refused_one a b some some' (programs.bad_packet is) (programs.bad_audio kept first ps dropped has is') = absurd (sound_or_fault true demuxed.video a has.has_units.sound is)
-  demuxed_refused_one a b some some' (programs.bad_packet is) (programs.many_units kept first ps dropped frames has have many e) =
-      absurd (sound_or_fault true demuxed.video a has.has_units.sound is)
-  demuxed_refused_one a b some some' (programs.no_sequence none e) (programs.bad_packet is) = absurd (sound_or_fault true demuxed.video b none.0 is)
+  demuxed_refused_one a b some some' (programs.bad_packet found is e) (programs.bad_packet found' is' e') =
+      e ∙ ap of_stream (packet_fault_one true demuxed.video found found' is is') ∙ sym e'
+  demuxed_refused_one a b some some' (programs.bad_packet found is said) (programs.no_sequence none e) = absurd (sound_or_fault true demuxed.video found none.0 is)
+  demuxed_refused_one a b some some' (programs.bad_packet found is said) (programs.bad_unit units has is') = absurd (sound_or_fault true demuxed.video found has.sound is)
+  demuxed_refused_one a b some some' (programs.bad_packet found is said) (programs.bad_audio kept first ps dropped has is') = absurd (sound_or_fault true demuxed.video found has.has_units.sound is)
+  demuxed_refused_one a b some some' (programs.bad_packet found is said) (programs.many_units kept first ps dropped frames has have many e) =
+      absurd (sound_or_fault true demuxed.video found has.has_units.sound is)
+  demuxed_refused_one a b some some' (programs.no_sequence none e) (programs.bad_packet found is said) = absurd (sound_or_fault true demuxed.video found none.0 is)
   demuxed_refused_one a b some some' (programs.no_sequence none e) (programs.no_sequence none' e') = e ∙ sym e'
   demuxed_refused_one a b some some' (programs.no_sequence none e) (programs.bad_unit units has is) = absurd (sequence_or_fault demuxed units b none has is)
   demuxed_refused_one a b some some' (programs.no_sequence none e) (programs.bad_audio kept first ps dropped has is) = absurd (sequence_or_pictures demuxed kept first ps dropped none has)
   demuxed_refused_one a b some some' (programs.no_sequence none e) (programs.many_units kept first ps dropped frames has have many e') =
       absurd (sequence_or_pictures demuxed kept first ps dropped none has)
-  demuxed_refused_one a b some some' (programs.bad_unit units has is) (programs.bad_packet is') = absurd (sound_or_fault true demuxed.video b has.sound is')
+  demuxed_refused_one a b some some' (programs.bad_unit units has is) (programs.bad_packet found is' said) = absurd (sound_or_fault true demuxed.video found has.sound is')
   demuxed_refused_one a b some some' (programs.bad_unit units has is) (programs.no_sequence none e) = absurd (sequence_or_fault demuxed units a none has is)
   demuxed_refused_one a b some some' (programs.bad_unit units has is) (programs.bad_unit units' has' is') =
       let same : units ≡ units' = units_one demuxed units units' has has' in
@@ -436,7 +349,7 @@ module _ (demuxed : Demuxed) where
       absurd (fault_or_pictures demuxed units a kept first ps dropped has is has')
   demuxed_refused_one a b some some' (programs.bad_unit units has is) (programs.many_units kept first ps dropped frames has' have many e) =
       absurd (fault_or_pictures demuxed units a kept first ps dropped has is has')
-  demuxed_refused_one a b some some' (programs.bad_audio kept first ps dropped has is) (programs.bad_packet is') = absurd (sound_or_fault true demuxed.video b has.has_units.sound is')
+  demuxed_refused_one a b some some' (programs.bad_audio kept first ps dropped has is) (programs.bad_packet found is' said) = absurd (sound_or_fault true demuxed.video found has.has_units.sound is')
   demuxed_refused_one a b some some' (programs.bad_audio kept first ps dropped has is) (programs.no_sequence none e) = absurd (sequence_or_pictures demuxed kept first ps dropped none has)
   demuxed_refused_one a b some some' (programs.bad_audio kept first ps dropped has is) (programs.bad_unit units has' is') =
       absurd (fault_or_pictures demuxed units b kept first ps dropped has' is' has)
@@ -447,7 +360,7 @@ module _ (demuxed : Demuxed) where
       (audio_fault_from first'.stated demuxed.audios b is')
   demuxed_refused_one a b some some' (programs.bad_audio kept first ps dropped has is) (programs.many_units kept' first' qs dropped' frames has' have many e) =
       absurd (audio_or_have kept kept' first first' ps qs dropped dropped' a frames some has has' is have)
-  demuxed_refused_one a b some some' (programs.many_units kept first ps dropped frames has have many e) (programs.bad_packet is) = absurd (sound_or_fault true demuxed.video b has.has_units.sound is)
+  demuxed_refused_one a b some some' (programs.many_units kept first ps dropped frames has have many e) (programs.bad_packet found is said) = absurd (sound_or_fault true demuxed.video found has.has_units.sound is)
   demuxed_refused_one a b some some' (programs.many_units kept first ps dropped frames has have many e) (programs.no_sequence none e') =
       absurd (sequence_or_pictures demuxed kept first ps dropped none has)
   demuxed_refused_one a b some some' (programs.many_units kept first ps dropped frames has have many e) (programs.bad_unit units has' is) =

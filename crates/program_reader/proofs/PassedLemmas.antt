@@ -17,7 +17,7 @@ use Rattle.picture_grammar.specs.Refusal.{Refusal}
 use Rattle.ts_demux.specs.declared.demuxed.PesUnit.{PesUnit}
 use Rattle.program_reader.specs.declared.kept_units.KeptUnit.{KeptUnit}
 use Rattle.program_reader.specs.declared.passed_units.PassedUnits.{PassedUnits}
-use Rattle.program_reader.specs.declared.pes_packets.PlacedPacket.{PlacedPacket}
+use Rattle.elementary_streams.specs.declared.pes_packets.PlacedPacket.{PlacedPacket}
 use Rattle.program_reader.specs.declared.program_fault.ProgramFault.{ProgramFault}
 use Rattle.program_reader.specs.declared.program_fault.ProgramFault.TheVariants.{OutOfMemory}
 use Rattle.program_reader.specs.declared.timed_picture.TimedPicture.{TimedPicture}
@@ -27,7 +27,7 @@ use Rattle.program_reader.specs.declared.video_places.VideoPlaces.{VideoPlaces}
 use Rattle.program_reader.specs.KeptUnits.{AreRows, row_of, kept_at}
 use Rattle.program_reader.specs.Sizes.{AreSizedSoFar}
 use Rattle.program_reader.specs.Intervals.{nearest}
-use Rattle.program_reader.specs.Packets.{joined, placed_from}
+use Rattle.elementary_streams.specs.Packets.{joined, placed_from}
 use Rattle.program_reader.specs.PictureTimes.{times_of_unit}
 use Rattle.program_reader.specs.TimesWalk.{HasPassed, Join}
 use Rattle.program_reader.specs.Units.{AreInOrder, IsBroken, IsNext, IsUnitRefused, is_none_left, last_of, state_behind, unit_bytes}
@@ -41,8 +41,8 @@ use Rattle.program_reader.proofs.KeepLemmas.{all_earlier, first_push, last_push,
 use Rattle.program_reader.proofs.SameTimes.{bytes_always, joins_all, longer, times_always}
 use Rattle.program_reader.proofs.SizedLemmas.{sized_more}
 use Rattle.program_reader.proofs.StatedTimes.{AreStatedTo, count_behind, stated_more, stated_none, step_is}
-use Rattle.program_reader.proofs.StreamLemmas.{placed_count, placed_times}
-use Rattle.program_reader.proofs.TimeRange.{IsInRange}
+use Rattle.elementary_streams.proofs.StreamLemmas.{placed_count, placed_times}
+use Rattle.elementary_streams.proofs.TimeRange.{IsInRange}
 
 -- ---- where units stand
 

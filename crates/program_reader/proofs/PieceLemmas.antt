@@ -33,7 +33,7 @@ use Rattle.std.proofs.Common.{
 use Rattle.std.specs.List.{range_with_len}
 use Rattle.std.proofs.lemmas.List.{append_assoc, append-nil, map-append, take_more, take_all, drop_more}
 use Rattle.audio_frames.specs.declared.frame.Frame.{Frame}
-use Rattle.program_reader.specs.declared.pes_packets.PlacedPacket.{PlacedPacket}
+use Rattle.elementary_streams.specs.declared.pes_packets.PlacedPacket.{PlacedPacket}
 use Rattle.program_reader.specs.declared.program.AudioPiece.{AudioPiece}
 use Rattle.program_reader.specs.Audio.{time_of_byte, payload_place, packet_size, piece_places, piece_size, placed_pieces, IsDue, IsPiece, ArePieces}
 use Rattle.program_reader.specs.Private.Dues.{IsTimeFrom}

@@ -61,15 +61,17 @@ use Rattle.ts_demux.specs.declared.demuxed.AudioStream.{AudioStream}
 use Rattle.ts_demux.specs.declared.demuxed.Demuxed.{Demuxed}
 use Rattle.ts_demux.specs.declared.demuxed.PesUnit.{PesUnit}
 use Rattle.job_report.specs.declared.job.Form.{Form}
-use Rattle.program_reader.specs.declared.audio_stream.ReadStream.{ReadStream}
+use Rattle.elementary_streams.specs.declared.audio_stream.ReadStream.{ReadStream}
 use Rattle.program_reader.specs.declared.due.DueClock.{DueClock}
 use Rattle.program_reader.specs.declared.kept_units.KeptUnit.{KeptUnit}
 use Rattle.program_reader.specs.declared.kept_units.KeptUnits.{KeptUnits}
 use Rattle.program_reader.specs.declared.limits.TheConstants.{FILE_BYTES_MOST}
-use Rattle.program_reader.specs.declared.pes_packets.PlacedPacket.{PlacedPacket}
-use Rattle.program_reader.specs.declared.pes_packets.TakenPackets.{TakenPackets}
+use Rattle.elementary_streams.specs.declared.pes_packets.PlacedPacket.{PlacedPacket}
+use Rattle.elementary_streams.specs.declared.pes_packets.TakenPackets.{TakenPackets}
 use Rattle.program_reader.specs.declared.program.AudioSource.{AudioSource}
 use Rattle.program_reader.specs.declared.program.UnitSource.{UnitSource}
+use Rattle.elementary_streams.specs.declared.stream_fault.StreamFault.{StreamFault}
+use Rattle.elementary_streams.specs.declared.stream_fault.StreamFault.TheVariants as stream_faults
 use Rattle.program_reader.specs.declared.program_fault.ProgramFault.{ProgramFault}
 use Rattle.program_reader.specs.declared.program_fault.ProgramFault.TheVariants.{Refused, OutOfMemory}
 use Rattle.program_reader.specs.declared.program_fault.SourceKind.TheVariants as kinds
@@ -77,16 +79,17 @@ use Rattle.program_reader.specs.declared.timed_picture.TimedPicture.{TimedPictur
 use Rattle.program_reader.specs.declared.video_stream.ReadVideo.{ReadVideo}
 use Rattle.program_reader.specs.KeptUnits.{AreRows, first_of}
 use Rattle.program_reader.specs.Audio.{IsAudioFault, IsDue, AreAudioSources}
-use Rattle.program_reader.specs.Packets.{IsPacketFault, taken, packets_dropped, joined, placed_from}
+use Rattle.elementary_streams.specs.Packets.{IsPacketFault, taken, packets_dropped, joined, placed_from}
 use Rattle.program_reader.specs.Programs.{HasFewPackets, video_bytes, video_packets, HasUnits, HasNoSequence, all_times, IsEarliest, IsBase, AreUnitSources, IsProgram, all_packets_dropped, IsTakenOut, IsDemuxedRefused, IsProgramRefused}
 use Rattle.program_reader.specs.Units.{AreInOrder, AreKept, all, but_last, last_of, IsBroken, IsUnitsFault}
-use Rattle.program_reader.specs.Private.AudioStarts.{IsNear, AreStreamsRead}
-use Rattle.program_reader.specs.Private.Dues.{IsTime, IsTimeFrom, Lowers, AreDueUnits}
+use Rattle.elementary_streams.specs.NearTimes.{IsNear, IsTime}
+use Rattle.program_reader.specs.Private.AudioStreams.{AreStreamsRead}
+use Rattle.program_reader.specs.Private.Dues.{IsTimeFrom, Lowers, AreDueUnits}
 use Rattle.program_reader.specs.Private.KeptUnits.{IsVideo, AreUnitsKept}
 use Rattle.program_reader.specs.Private.Sources.{IsVideoRead, AreStreamsFrom, frame_times, read_times}
-use Rattle.program_reader.specs.Private.TakenPackets.{AreTaken}
+use Rattle.elementary_streams.specs.Taken.{AreTaken}
 use Rattle.program_reader.proofs.DueLemmas.{lowers_both}
-use Rattle.program_reader.proofs.StreamLemmas.{bytes_in, taken_bytes, taken_count, placed_count}
+use Rattle.elementary_streams.proofs.StreamLemmas.{bytes_in, taken_bytes, taken_count, placed_count}
 use Rattle.program_reader.proofs.StreamsLemmas.{have_frames}
 
 -- ---- the earliest time of streams
@@ -427,10 +430,11 @@ program_is start demuxed video streams clock rows given base bytes units audios 
 
 -- ---- what is refused
 
-pub bad_packets : (demuxed : Demuxed) (packets : List PesUnit) (fault : ProgramFault) → packets ≡ demuxed.video → (fault ≡ OutOfMemory) ⊎ IsPacketFault true packets fault →
-    (fault ≡ OutOfMemory) ⊎ IsDemuxedRefused demuxed fault
-bad_packets demuxed packets fault is (inl memory) = inl memory
-bad_packets demuxed packets fault is (inr refused) = inr (IsDemuxedRefused.bad_packet (subst (λ (ps : List PesUnit). IsPacketFault true ps fault) is refused))
+pub bad_packets : (demuxed : Demuxed) (packets : List PesUnit) (found : StreamFault) (fault : ProgramFault) → packets ≡ demuxed.video →
+    (found ≡ stream_faults.OutOfMemory) ⊎ IsPacketFault true packets found → fault ≡ of_stream found → (fault ≡ OutOfMemory) ⊎ IsDemuxedRefused demuxed fault
+bad_packets demuxed packets found fault is (inl memory) said = inl (said ∙ ap of_stream memory)
+bad_packets demuxed packets found fault is (inr refused) said =
+    inr (IsDemuxedRefused.bad_packet found (subst (λ (ps : List PesUnit). IsPacketFault true ps found) is refused) said)
 
 pub bad_streams : (demuxed : Demuxed) (video : ReadVideo) (streams : List AudioStream) (first : ℤ) (fault : ProgramFault) → IsVideoRead demuxed video → streams ≡ demuxed.audios →
     first ≡ video.first.stated → (fault ≡ OutOfMemory) ⊎ IsAudioFault first streams fault → (fault ≡ OutOfMemory) ⊎ IsDemuxedRefused demuxed fault

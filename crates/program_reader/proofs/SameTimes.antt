@@ -9,13 +9,13 @@ use Rattle.audio_frames.proofs.Places.{found_passes}
 use Rattle.es_units.specs.Pictures.{begins_picture, first_picture}
 use Rattle.es_units.proofs.PicturesFound.{begins_same}
 use Rattle.ts_demux.specs.declared.demuxed.PesUnit.{PesUnit}
-use Rattle.program_reader.specs.declared.pes_packets.PlacedPacket.{PlacedPacket}
-use Rattle.program_reader.specs.Packets.{pes_payload_of, joined, placed_from}
+use Rattle.elementary_streams.specs.declared.pes_packets.PlacedPacket.{PlacedPacket}
+use Rattle.elementary_streams.specs.Packets.{pes_payload_of, joined, placed_from}
 use Rattle.program_reader.specs.PictureTimes.{is_first_picture_in, times_at, times_of_unit}
 use Rattle.program_reader.specs.TimesWalk.{Join}
 use Rattle.program_reader.specs.Units.{unit_bytes}
 use Rattle.program_reader.proofs.PlaceLemmas.{found_from}
-use Rattle.program_reader.proofs.TakenLemmas.{placed_at}
+use Rattle.elementary_streams.proofs.TakenLemmas.{placed_at}
 use Rattle.program_reader.proofs.TimesWalked.{none_behind}
 
 -- ---- what is found among places

@@ -43,7 +43,7 @@ use Rattle.version_maker.specs.declared.version.VersionSize.{VersionSize}
 use Rattle.version_maker.specs.Versions.{AreSizes}
 use Rattle.program_reader.specs.declared.kept_units.KeptUnit.{KeptUnit}
 use Rattle.program_reader.specs.declared.kept_units.KeptUnits.{KeptUnits}
-use Rattle.program_reader.specs.declared.pes_packets.PlacedPacket.{PlacedPacket}
+use Rattle.elementary_streams.specs.declared.pes_packets.PlacedPacket.{PlacedPacket}
 use Rattle.program_reader.specs.declared.program.Program.{Program}
 use Rattle.program_reader.specs.declared.program.UnitSource.{UnitSource}
 use Rattle.program_reader.specs.declared.program_fault.ProgramFault.{ProgramFault}

@@ -10,17 +10,17 @@ use Rattle.list_types.specs.Spans.{spans}
 use Rattle.pes_units.specs.PesPackets.{is_dropped}
 use Rattle.ts_demux.specs.declared.demuxed.AudioStream.{AudioStream}
 use Rattle.ts_demux.specs.declared.demuxed.PesUnit.{PesUnit}
-use Rattle.program_reader.specs.declared.audio_stream.ReadStream.{ReadStream}
-use Rattle.program_reader.specs.declared.pes_packets.PlacedPacket.{PlacedPacket}
+use Rattle.elementary_streams.specs.declared.audio_stream.ReadStream.{ReadStream}
+use Rattle.elementary_streams.specs.declared.pes_packets.PlacedPacket.{PlacedPacket}
 use Rattle.program_reader.specs.declared.program.AudioPiece.{AudioPiece}
 use Rattle.program_reader.specs.declared.program.AudioSource.{AudioSource}
-use Rattle.program_reader.specs.Packets.{taken, pes_payload_of, joined, placed_from}
+use Rattle.elementary_streams.specs.Packets.{taken, pes_payload_of, joined, placed_from}
 use Rattle.program_reader.specs.Audio.{time_of_byte, payload_place, placed_pieces, ArePieces, IsAudioSource, AreAudioSources}
 use Rattle.program_reader.specs.Private.Dues.{IsTimeFrom}
 use Rattle.program_reader.specs.Private.Pieces.{Follow, HasTimes}
 use Rattle.program_reader.specs.Private.Sources.{IsStreamFrom, AreStreamsFrom}
-use Rattle.program_reader.proofs.StreamLemmas.{placed_count, taken_count, bytes_in, taken_bytes, HasPayload, taken_payloads}
-use Rattle.program_reader.proofs.TakenLemmas.{placed_at}
+use Rattle.elementary_streams.proofs.StreamLemmas.{placed_count, taken_count, bytes_in, taken_bytes, HasPayload, taken_payloads}
+use Rattle.elementary_streams.proofs.TakenLemmas.{placed_at}
 use Rattle.audio_frames.proofs.Timed.{span}
 
 -- ---- each payload byte has a frame

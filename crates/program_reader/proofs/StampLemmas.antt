@@ -5,14 +5,14 @@ use Rattle.std.proofs.lemmas.Bool.{ne_eqb, eq-eqb, cases_eq}
 use Rattle.pes_units.specs.declared.times.Times.{Times}
 use Rattle.audio_frames.proofs.Places.{found_passes}
 use Rattle.ts_demux.specs.declared.demuxed.PesUnit.{PesUnit}
-use Rattle.program_reader.specs.declared.pes_packets.PlacedPacket.{PlacedPacket}
+use Rattle.elementary_streams.specs.declared.pes_packets.PlacedPacket.{PlacedPacket}
 use Rattle.program_reader.specs.declared.picture_times.StampedPicture.{StampedPicture}
-use Rattle.program_reader.specs.Packets.{pes_payload_of, placed_from}
+use Rattle.elementary_streams.specs.Packets.{pes_payload_of, placed_from}
 use Rattle.es_units.specs.Pictures.{begins_picture, first_picture}
 use Rattle.program_reader.specs.PictureTimes.{no_times, times_at, times_of_unit}
 use Rattle.program_reader.specs.Private.StampedPictures.{stamp_at, stamps_of, times_of_stamp, AreRising, Leaves, LeavesFrom, TellTimes, IsCounted}
 use Rattle.program_reader.proofs.PlaceLemmas.{found_from}
-use Rattle.program_reader.proofs.TakenLemmas.{placed_at}
+use Rattle.elementary_streams.proofs.TakenLemmas.{placed_at}
 
 pub times_stamped : (es : List ℕ) (packets : List PlacedPacket) (at : ℕ) → times_at es packets at ≡ times_of_stamp (stamps_of es packets) at
 times_stamped es [] at = refl

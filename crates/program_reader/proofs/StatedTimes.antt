@@ -5,9 +5,9 @@ use Rattle.pes_units.specs.declared.times.Times.{Times}
 use Rattle.pes_units.specs.Times.{decoding_time}
 use Rattle.es_units.specs.Pictures.{begins_picture, first_picture}
 use Rattle.ts_demux.specs.declared.demuxed.PesUnit.{PesUnit}
-use Rattle.program_reader.specs.declared.pes_packets.PlacedPacket.{PlacedPacket}
+use Rattle.elementary_streams.specs.declared.pes_packets.PlacedPacket.{PlacedPacket}
 use Rattle.program_reader.specs.declared.picture_times.StampedPicture.{StampedPicture}
-use Rattle.program_reader.specs.Packets.{joined, placed_from}
+use Rattle.elementary_streams.specs.Packets.{joined, placed_from}
 use Rattle.program_reader.specs.PictureTimes.{no_times, times_of_unit}
 use Rattle.program_reader.specs.Private.StampedPictures.{stamps_of, LeavesFrom, TellTimes, IsCounted}
 use Rattle.program_reader.proofs.KeepLemmas.{IsStep, stamps_few}

@@ -3,12 +3,15 @@ use Rattle.std.proofs.Common.{◌≡◌, ◌⊎◌, ℕ, suc, ◌+◌, ◌<◌, 
 use Rattle.std.proofs.Math.Seq.{split_at}
 use Rattle.std.proofs.lemmas.List.{take_more}
 use Rattle.ts_demux.specs.declared.demuxed.AudioStream.{AudioStream}
-use Rattle.program_reader.specs.declared.audio_stream.ReadStream.{ReadStream}
+use Rattle.elementary_streams.specs.declared.audio_stream.ReadStream.{ReadStream}
+use Rattle.elementary_streams.specs.declared.stream_fault.StreamFault.{StreamFault}
+use Rattle.elementary_streams.specs.declared.stream_fault.StreamFault.TheVariants as stream_faults
 use Rattle.program_reader.specs.declared.program_fault.ProgramFault.{ProgramFault}
 use Rattle.program_reader.specs.declared.program_fault.ProgramFault.TheVariants.{OutOfMemory}
-use Rattle.program_reader.specs.Audio.{HaveFrames, IsAudioFault, IsStreamRefused}
-use Rattle.program_reader.specs.AudioTypes.{audio_type}
-use Rattle.program_reader.specs.Private.AudioStarts.{IsStreamRead, AreStreamsRead}
+use Rattle.program_reader.specs.Audio.{HaveFrames, IsAudioFault}
+use Rattle.program_reader.specs.Faults.{of_stream}
+use Rattle.elementary_streams.specs.Audio.{IsStreamRefused, audio_type, IsStreamRead}
+use Rattle.program_reader.specs.Private.AudioStreams.{AreStreamsRead}
 
 pub streams_push : (first : ℤ) (streams : List AudioStream) (read : List ReadStream) (stream : AudioStream) (one : ReadStream) → AreStreamsRead first streams read →
     IsStreamRead first stream one → AreStreamsRead first (streams ++ stream ∷ []) (read ++ one ∷ [])
@@ -39,16 +42,18 @@ streams_more first streams i read news stream one lt is pushed are found =
     subst (λ (all : List ReadStream). AreStreamsRead first (take (i + 1) streams) all) (sym pushed)
     (subst (λ (all : List AudioStream). AreStreamsRead first all (read ++ one ∷ [])) (sym more) (streams_push first (take i streams) read stream one are found))
 
-pub stream_refused : (first : ℤ) (streams : List AudioStream) (i : ℕ) (read : List ReadStream) (stream : AudioStream) (fault : ProgramFault) → i < length streams →
-    stream ≡ get_or streams i stream → AreStreamsRead first (take i streams) read → (fault ≡ OutOfMemory) ⊎ IsStreamRefused first stream fault →
+pub stream_refused : (first : ℤ) (streams : List AudioStream) (i : ℕ) (read : List ReadStream) (stream : AudioStream) (found : StreamFault) (fault : ProgramFault) → i < length streams →
+    stream ≡ get_or streams i stream → AreStreamsRead first (take i streams) read → (found ≡ stream_faults.OutOfMemory) ⊎ IsStreamRefused first stream found → fault ≡ of_stream found →
     (fault ≡ OutOfMemory) ⊎ IsAudioFault first streams fault
-stream_refused first streams i read stream fault lt is are (inl memory) = inl memory
-stream_refused first streams i read stream fault lt is are (inr refused) = inr (record {
+stream_refused first streams i read stream found fault lt is are (inl memory) said = inl (said ∙ ap of_stream memory)
+stream_refused first streams i read stream found fault lt is are (inr refused) said = inr (record {
   before = take i streams;
   stream = stream;
   more = drop (suc i) streams;
   split = split_at streams i stream lt ∙ ap (λ (s : AudioStream). take i streams ++ s ∷ drop (suc i) streams) (sym is);
   frames = map (λ one. one.frames) read;
   have = have_frames first (take i streams) read are;
+  found = found;
   refused = refused;
+  fault_is = said;
 })

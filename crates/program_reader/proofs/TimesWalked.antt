@@ -11,7 +11,7 @@ use Rattle.audio_frames.proofs.Places.{found_least, none_passes}
 use Rattle.es_units.specs.PictureFinder.{picture_places}
 use Rattle.es_units.specs.Pictures.{begins_picture, first_picture}
 use Rattle.es_units.proofs.Places.{none_in_range}
-use Rattle.program_reader.specs.declared.pes_packets.PlacedPacket.{PlacedPacket}
+use Rattle.elementary_streams.specs.declared.pes_packets.PlacedPacket.{PlacedPacket}
 use Rattle.program_reader.specs.PictureTimes.{is_first_picture_in, no_times, times_at, times_of_unit}
 use Rattle.program_reader.specs.TimesWalk.{Join}
 use Rattle.program_reader.specs.Private.TimesWalk.{EndsWith, IsNextOf, times_behind}

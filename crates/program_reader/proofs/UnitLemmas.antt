@@ -7,7 +7,7 @@ use Rattle.picture_laws.proofs.SpelledStates.{state-of_unit}
 use Rattle.grammar_reading.specs.BitsRead.{PlacedRefusal}
 use Rattle.video_headers.specs.declared.head.Headers.{Headers}
 use Rattle.picture_reader.specs.Picture.{SpellsHeaders}
-use Rattle.program_reader.specs.declared.pes_packets.PlacedPacket.{PlacedPacket}
+use Rattle.elementary_streams.specs.declared.pes_packets.PlacedPacket.{PlacedPacket}
 use Rattle.program_reader.specs.declared.timed_picture.TimedPicture.{TimedPicture}
 use Rattle.program_reader.specs.declared.unit_picture.TimedUnit.{TimedUnit}
 use Rattle.program_reader.specs.Units.{unit_bytes, state_behind, IsCoded, IsUnitRefused}

@@ -17,7 +17,9 @@ use Rattle.program_reader.specs.declared.kept_units.KeptUnit.{KeptUnit}
 use Rattle.program_reader.specs.declared.kept_units.KeptUnits.{KeptUnits}
 use Rattle.program_reader.specs.declared.limits.TheConstants.{FILE_BYTES_MOST}
 use Rattle.program_reader.specs.declared.passed_units.PassedUnits.{PassedUnits}
-use Rattle.program_reader.specs.declared.pes_packets.PlacedPacket.{PlacedPacket}
+use Rattle.elementary_streams.specs.declared.pes_packets.PlacedPacket.{PlacedPacket}
+use Rattle.elementary_streams.specs.declared.stream_fault.StreamFault.TheVariants as stream_faults
+use Rattle.elementary_streams.specs.declared.stream_fault.StreamFault.TheVariants.{Pes}
 use Rattle.program_reader.specs.declared.program_fault.ProgramFault.{ProgramFault}
 use Rattle.program_reader.specs.declared.program_fault.ProgramFault.TheVariants.{OutOfMemory, Refused}
 use Rattle.program_reader.specs.declared.program_fault.SourceKind.TheVariants as kinds
@@ -27,7 +29,7 @@ use Rattle.program_reader.specs.declared.video_places.VideoPlaces.{VideoPlaces}
 use Rattle.program_reader.specs.declared.video_walk.WalkedVideo.{WalkedVideo}
 use Rattle.program_reader.specs.KeptUnits.{AreRows, first_of, row_of, kept_at}
 use Rattle.program_reader.specs.Intervals.{nearest}
-use Rattle.program_reader.specs.Packets.{AreSound, IsPacketFault, joined, packets_dropped, placed_from, taken}
+use Rattle.elementary_streams.specs.Packets.{AreSound, IsPacketFault, joined, packets_dropped, placed_from, taken}
 use Rattle.program_reader.specs.Programs.{HasUnits, IsDemuxedRefused, video_bytes, video_packets}
 use Rattle.program_reader.specs.Sizes.{AreSizedSoFar, AreUnitSizes}
 use Rattle.program_reader.specs.TimesWalk.{HasPassed}
@@ -35,14 +37,14 @@ use Rattle.program_reader.specs.Units.{AreInOrder, AreKept, IsBroken, IsNext, Is
 use Rattle.program_reader.specs.VideoWalk.{AreAll, AreFew, AreRefused, HasUnitFault, HavePassed, IsFaultBefore, IsVideoWalked, ReadsTo, Stand, end_of}
 use Rattle.program_reader.specs.Private.PassedVideo.{IsKeptAs, timed_as, IsReadAs, IsVideoOf}
 use Rattle.program_reader.specs.Private.SizedUnits.{IsSizedBehind, IsSizedFound}
-use Rattle.program_reader.specs.Private.TakenPackets.{IsFaultOf}
+use Rattle.program_reader.specs.Private.PassedVideo.{IsFaultOf}
 use Rattle.program_reader.specs.Private.TimedPictures.{IsFound, IsNotFound, IsPossible}
 use Rattle.program_reader.proofs.KeepLemmas.{all_earlier, first_push, last_tells, nearest_last, order_push, rows_push}
 use Rattle.program_reader.proofs.PassedLemmas.{AreGiven, Follows, fits_front, fits_last, given_of, passed_later, possible_passed}
 use Rattle.program_reader.proofs.ProgramLemmas.{first_none, first_some, none_kept, nothing_kept}
 use Rattle.program_reader.proofs.SameTimes.{longer}
 use Rattle.program_reader.proofs.SizedLemmas.{sized_all, sized_more, sized_none}
-use Rattle.program_reader.proofs.TakenLemmas.{IsWhole, count_dropped, count_taken, dropped_of, read_none, read_some, refused_last, sound_of, taken_of}
+use Rattle.elementary_streams.proofs.TakenLemmas.{IsWhole, count_dropped, count_taken, dropped_of, read_none, read_some, refused_last, sound_of, taken_of}
 
 -- ---- before the first packet
 
@@ -345,22 +347,28 @@ ends_dropped packets all last found whole all_are sound found_is none =
 pub fault_whole : (packets : List PesUnit) (packet : PesUnit) (fault : ProgramFault) → All (IsWhole true) packets → IsFaultOf packet.at (packet_refusal true packet.bytes) fault
     → (fault ≡ OutOfMemory) ⊎ IsFaultBefore packets packet fault
 fault_whole packets packet fault whole (inl memory) = inl memory
-fault_whole packets packet fault whole (inr found) = inr (λ next more. record {
-  before = packets;
-  packet = packet;
-  more = next ∷ more;
-  split = refl;
-  sound = whole;
-  found = found.0;
-  refused = found.1;
-  fault_is = found.2;
-})
+fault_whole packets packet fault whole (inr found) = inr (λ next more. (
+  Pes packet.at found.0,
+  record {
+    before = packets;
+    packet = packet;
+    more = next ∷ more;
+    split = refl;
+    sound = whole;
+    found = found.0;
+    refused = found.1;
+    fault_is = refl;
+  },
+  found.2,
+))
 
 -- the last packet has this fault
 pub fault_last : (demuxed : Demuxed) (packets : List PesUnit) (last : PesUnit) (fault : ProgramFault) → demuxed.video ≡ packets ++ last ∷ [] → All (IsWhole true) packets
     → IsFaultOf last.at (last_refusal true last.bytes) fault → (fault ≡ OutOfMemory) ⊎ IsDemuxedRefused demuxed fault
-fault_last demuxed packets last fault all_are whole refused = by_fault (refused_last true demuxed.video packets last fault all_are whole refused)
+fault_last demuxed packets last fault all_are whole (inl memory) = inl memory
+fault_last demuxed packets last fault all_are whole (inr found) =
+    by_fault (refused_last true demuxed.video packets last (Pes last.at found.0) all_are whole (inr (found.0, found.1, refl)))
   where
-    by_fault : (fault ≡ OutOfMemory) ⊎ IsPacketFault true demuxed.video fault → (fault ≡ OutOfMemory) ⊎ IsDemuxedRefused demuxed fault
-    by_fault (inl memory) = inl memory
-    by_fault (inr found) = inr (IsDemuxedRefused.bad_packet found)
+    by_fault : (Pes last.at found.0 ≡ stream_faults.OutOfMemory) ⊎ IsPacketFault true demuxed.video (Pes last.at found.0) → (fault ≡ OutOfMemory) ⊎ IsDemuxedRefused demuxed fault
+    by_fault (inl memory) = absurd cc
+    by_fault (inr is) = inr (IsDemuxedRefused.bad_packet (Pes last.at found.0) is found.2)

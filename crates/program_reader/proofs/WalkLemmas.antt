@@ -13,7 +13,7 @@ use Rattle.es_units.proofs.CutterKeeps.{take_sum}
 use Rattle.pes_units.specs.declared.pes_header.PesHeader.{PesHeader}
 use Rattle.pes_units.specs.PesHeader.{pes_fields_of}
 use Rattle.ts_demux.specs.declared.demuxed.PesUnit.{PesUnit}
-use Rattle.program_reader.specs.declared.pes_packets.PlacedPacket.{PlacedPacket}
+use Rattle.elementary_streams.specs.declared.pes_packets.PlacedPacket.{PlacedPacket}
 use Rattle.program_reader.specs.declared.passed_units.PassedUnits.{PassedUnits}
 use Rattle.program_reader.specs.declared.program_fault.ProgramFault.{ProgramFault}
 use Rattle.program_reader.specs.declared.program_fault.ProgramFault.TheVariants.{OutOfMemory}
@@ -22,7 +22,7 @@ use Rattle.program_reader.specs.declared.video_places.VideoPlaces.{VideoPlaces}
 use Rattle.program_reader.specs.declared.video_walk.VideoWalk.{VideoWalk}
 use Rattle.program_reader.specs.KeptUnits.{kept_at}
 use Rattle.program_reader.specs.Sizes.{AreSizedSoFar}
-use Rattle.program_reader.specs.Packets.{pes_payload_of, joined, placed_from}
+use Rattle.elementary_streams.specs.Packets.{pes_payload_of, joined, placed_from}
 use Rattle.program_reader.specs.TimesWalk.{HasPassed}
 use Rattle.program_reader.specs.Units.{AreInOrder, state_behind, unit_bytes}
 use Rattle.program_reader.specs.VideoWalk.{AreFew, AreRefused, HasUnitFault, HavePassed, Reads, ReadsTo, Stand, end_of}
@@ -31,7 +31,7 @@ use Rattle.program_reader.specs.Private.SizedUnits.{IsSizedFound}
 use Rattle.program_reader.specs.Private.TimedPictures.{IsPossible}
 use Rattle.program_reader.proofs.PassedLemmas.{AreGiven, Follows, ended_before, fits_front, fits_last, given_of, have_more, next_here, passed_later, passed_longer, possible_passed, refused_here, sized_here, some_here}
 use Rattle.program_reader.proofs.SameTimes.{joined_append, longer, range_front}
-use Rattle.program_reader.proofs.TakenLemmas.{joined_push, placed_at, placed_push}
+use Rattle.elementary_streams.proofs.TakenLemmas.{joined_push, placed_at, placed_push}
 
 -- ---- places of one more packet
 

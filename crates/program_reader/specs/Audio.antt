@@ -1,57 +1,20 @@
--- The audio streams of a program: the times of their frames, and their PES packets in pieces. (What a PTS belongs to by ISO/IEC
--- 13818-1, 2.4.3.7; the pieces are this project's.)
-use Rattle.std.specs.Prelude.{◌≡◌, ℕ, ◌+◌, ◌-◌, ◌*◌, ◌/◌, ◌==◌, nat_lt, min, false, List, [], ◌∷◌, ◌++◌, map, Option, Some, None, unwrap_or, ℤ, pos, ◌+ℤ◌, ◌-ℤ◌}
+-- The audio streams of a program: which is the first that is refused, and their PES packets in pieces (these are this project's).
+use Rattle.std.specs.Prelude.{◌≡◌, ℕ, ◌+◌, ◌-◌, ◌*◌, ◌/◌, ◌==◌, nat_lt, min, List, [], ◌∷◌, ◌++◌, map, ℤ, pos, ◌+ℤ◌, ◌-ℤ◌}
 use Rattle.std.specs.List.{find, flat_map, range_with_len}
 use Rattle.std.specs.Option.{option_map_or}
-use Rattle.audio_frames.specs.declared.audio_fault.AudioFault.{AudioFault}
 use Rattle.audio_frames.specs.declared.frame.Frame.{Frame}
-use Rattle.audio_frames.specs.declared.pes_start.PesStart.{PesStart}
-use Rattle.audio_frames.specs.Times.{AreFramesOf, IsAudioRefused}
-use Rattle.pes_units.specs.TimeAxis.{IsUnwrapped}
-use Rattle.pes_units.specs.Times.{decoding_time}
 use Rattle.ts_demux.specs.declared.demuxed.AudioStream.{AudioStream}
-use Rattle.ts_demux.specs.declared.demuxed.PesUnit.{PesUnit}
+use Rattle.elementary_streams.specs.declared.pes_packets.PlacedPacket.{PlacedPacket}
+use Rattle.elementary_streams.specs.declared.stream_fault.StreamFault.{StreamFault}
+use Rattle.elementary_streams.specs.Audio.{HasFrames, IsStreamRefused, taken_of}
+use Rattle.elementary_streams.specs.Packets.{placed_from}
 use Rattle.program_reader.specs.declared.limits.TheConstants.{PIECE_BYTES}
-use Rattle.program_reader.specs.declared.pes_packets.PlacedPacket.{PlacedPacket}
 use Rattle.program_reader.specs.declared.program.AudioPiece.{AudioPiece}
 use Rattle.program_reader.specs.declared.program.AudioSource.{AudioSource}
 use Rattle.program_reader.specs.declared.program_fault.ProgramFault.{ProgramFault}
-use Rattle.program_reader.specs.Faults.{of_audio}
-use Rattle.program_reader.specs.Packets.{AreSound, IsPacketFault, taken, joined, placed_from}
+use Rattle.program_reader.specs.Faults.{of_stream}
 
--- ---- times
-
--- the time of a PES packet on the axis of the last time before it, if it has one
-abbrev pub IsPlacedTime : ℤ → Option ℕ → Option ℤ → Type 0
-IsPlacedTime before None time = time ≡ None
-IsPlacedTime before (Some value) time = (placed : ℤ) × (time ≡ Some placed) × IsUnwrapped before value placed
-
--- PES packets with their times on one axis, each behind the last time before it, and where their payloads begin
-abbrev pub AreStartsOf : ℤ → List PlacedPacket → List PesStart → Type 0
-AreStartsOf before [] [] = Unit {0}
-AreStartsOf before [] (_ ∷ _) = ⊥
-AreStartsOf before (_ ∷ _) [] = ⊥
-AreStartsOf before (packet ∷ packets) (start ∷ starts) =
-    (start.at ≡ packet.from) × IsPlacedTime before (decoding_time packet.header.times) start.time × AreStartsOf (unwrap_or start.time before) packets starts
-
--- ---- a stream
-
--- the PES packets of an audio stream that are taken
-abbrev pub taken_of : AudioStream → List PesUnit
-taken_of stream = taken false stream.units
-
--- The frames of an audio stream of a program whose video begins at this time, in units of 1/90,000 s.
-pub record HasFrames (first : ℤ) (stream : AudioStream) (frames : List Frame) : Type 0 where
-  pub sound : AreSound false stream.units
-  pub starts : List PesStart
-  pub starts_are : AreStartsOf first (placed_from 0 (taken_of stream)) starts
-  pub frames_are : AreFramesOf (joined (taken_of stream)) starts frames
-
--- What refuses it: first its PES packets, and then its frames.
-pub data IsStreamRefused (first : ℤ) (stream : AudioStream) (fault : ProgramFault) : Type 0 where
-  bad_packet : IsPacketFault false stream.units fault → IsStreamRefused first stream fault
-  bad_frames : (starts : List PesStart) (found : AudioFault) → AreSound false stream.units → AreStartsOf first (placed_from 0 (taken_of stream)) starts
-      → IsAudioRefused (joined (taken_of stream)) starts found → fault ≡ of_audio found → IsStreamRefused first stream fault
+-- ---- streams
 
 -- the frames of streams, each with its own
 abbrev pub HaveFrames : ℤ → List AudioStream → List (List Frame) → Type 0
@@ -68,7 +31,9 @@ pub record IsAudioFault (first : ℤ) (streams : List AudioStream) (fault : Prog
   pub split : streams ≡ before ++ stream ∷ more
   pub frames : List (List Frame)
   pub have : HaveFrames first before frames
-  pub refused : IsStreamRefused first stream fault
+  pub found : StreamFault
+  pub refused : IsStreamRefused first stream found
+  pub fault_is : fault ≡ of_stream found
 
 -- ---- its pieces
 

@@ -7,8 +7,8 @@ use Rattle.ts_demux.specs.declared.demuxed.Demuxed.{Demuxed}
 use Rattle.program_stream.specs.Streams.{map_stream}
 use Rattle.job_report.specs.declared.job.Form.{Form}
 use Rattle.job_report.specs.declared.job.Form.TheVariants.{Ts, Ps}
-use Rattle.program_reader.specs.Packets.{joined}
-use Rattle.program_reader.specs.Audio.{taken_of}
+use Rattle.elementary_streams.specs.Packets.{joined}
+use Rattle.elementary_streams.specs.Audio.{taken_of}
 
 -- stream_type 04 of a stream whose first frame has a low sampling rate (ISO/IEC 13818-3), 03 of every other one (ISO/IEC 11172-3)
 abbrev pub audio_type : AudioStream → ℕ

@@ -9,6 +9,8 @@ use Rattle.pes_units.specs.declared.pes_fault.PesFault.TheVariants as pes_faults
 use Rattle.picture_grammar.specs.Refusal.{Refusal}
 use Rattle.audio_frames.specs.declared.audio_fault.AudioFault.{AudioFault}
 use Rattle.audio_frames.specs.declared.audio_fault.AudioFault.TheVariants as audio_faults
+use Rattle.elementary_streams.specs.declared.stream_fault.StreamFault.{StreamFault}
+use Rattle.elementary_streams.specs.declared.stream_fault.StreamFault.TheVariants as stream_faults
 use Rattle.program_reader.specs.declared.program_fault.ProgramFault.{ProgramFault}
 use Rattle.program_reader.specs.declared.program_fault.ProgramFault.TheVariants.{Refused, OutOfMemory}
 use Rattle.program_reader.specs.declared.program_fault.SourceKind.{SourceKind}
@@ -74,3 +76,9 @@ of_audio (audio_faults.AudioSync at) = Refused kinds.AudioSync at
 of_audio (audio_faults.NoAudioTime at) = Refused kinds.NoAudioTime at
 of_audio (audio_faults.TimeOrder at) = Refused kinds.TimeOrder at
 of_audio audio_faults.OutOfMemory = OutOfMemory
+
+-- what an elementary stream is refused for
+abbrev pub of_stream : StreamFault → ProgramFault
+of_stream (stream_faults.Pes at found) = of_pes at found
+of_stream (stream_faults.Frames found) = of_audio found
+of_stream stream_faults.OutOfMemory = OutOfMemory

@@ -1,5 +1,4 @@
 pub mod Faults
-pub mod Packets
 pub mod PictureTimes
 pub mod TimesWalk
 pub mod Intervals

@@ -4,7 +4,7 @@ use Rattle.std.specs.List.{find}
 use Rattle.std.specs.Option.{option_map_or}
 use Rattle.es_units.specs.Pictures.{first_picture}
 use Rattle.pes_units.specs.declared.times.Times.{Times}
-use Rattle.program_reader.specs.declared.pes_packets.PlacedPacket.{PlacedPacket}
+use Rattle.elementary_streams.specs.declared.pes_packets.PlacedPacket.{PlacedPacket}
 
 -- the first picture whose start code begins in the PES packet begins at the place
 abbrev pub is_first_picture_in : List ℕ → ℕ → PlacedPacket → Bool

@@ -1,4 +1,4 @@
-pub mod AudioStarts
+pub mod AudioStreams
 pub mod Dues
 pub mod FrameWalk
 pub mod Frames
@@ -8,6 +8,5 @@ pub mod Pieces
 pub mod SizedUnits
 pub mod Sources
 pub mod StampedPictures
-pub mod TakenPackets
 pub mod TimedPictures
 pub mod TimesWalk

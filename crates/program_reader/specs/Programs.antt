@@ -15,15 +15,16 @@ use Rattle.program_stream.specs.Split.{HasElements, IsSplit, IsSplitRefused}
 use Rattle.job_report.specs.declared.job.Form.{Form}
 use Rattle.job_report.specs.declared.job.Form.TheVariants.{Ts, Ps}
 use Rattle.program_reader.specs.declared.limits.TheConstants.{FILE_BYTES_MOST, PES_PACKETS_MOST, UNITS_MOST}
-use Rattle.program_reader.specs.declared.pes_packets.PlacedPacket.{PlacedPacket}
+use Rattle.elementary_streams.specs.declared.pes_packets.PlacedPacket.{PlacedPacket}
+use Rattle.elementary_streams.specs.declared.stream_fault.StreamFault.{StreamFault}
 use Rattle.program_reader.specs.declared.program.Program.{Program}
 use Rattle.program_reader.specs.declared.program.UnitSource.{UnitSource}
 use Rattle.program_reader.specs.declared.program_fault.ProgramFault.{ProgramFault}
 use Rattle.program_reader.specs.declared.program_fault.ProgramFault.TheVariants.{Refused, OutOfMemory}
 use Rattle.program_reader.specs.declared.program_fault.SourceKind.TheVariants as kinds
 use Rattle.program_reader.specs.declared.timed_picture.TimedPicture.{TimedPicture}
-use Rattle.program_reader.specs.Faults.{of_demux, of_split}
-use Rattle.program_reader.specs.Packets.{AreSound, IsPacketFault, taken, packets_dropped, joined, placed_from}
+use Rattle.program_reader.specs.Faults.{of_demux, of_split, of_stream}
+use Rattle.elementary_streams.specs.Packets.{AreSound, IsPacketFault, taken, packets_dropped, joined, placed_from}
 use Rattle.program_reader.specs.Units.{AreKept, IsBroken, IsUnitsFault}
 use Rattle.program_reader.specs.Audio.{HaveFrames, IsAudioFault, IsDue, AreAudioSources}
 use Rattle.program_reader.specs.AudioTypes.{typed}
@@ -148,7 +149,7 @@ pub record IsProgramOfFile (form : Form) (file : List ℕ) (number : ℕ) (drop 
 -- What refuses what is taken out of a file, in this order: the video's PES packets; no unit; its units, one behind the other; the audio streams in
 -- their order; the number of units.
 pub data IsDemuxedRefused (demuxed : Demuxed) (fault : ProgramFault) : Type 0 where
-  bad_packet : IsPacketFault true demuxed.video fault → IsDemuxedRefused demuxed fault
+  bad_packet : (found : StreamFault) → IsPacketFault true demuxed.video found → fault ≡ of_stream found → IsDemuxedRefused demuxed fault
   no_sequence : HasNoSequence demuxed → fault ≡ Refused kinds.NoSequence 0 → IsDemuxedRefused demuxed fault
   bad_unit : (units : Units) → HasUnits demuxed units → IsUnitsFault (video_bytes demuxed) (video_packets demuxed) units.cuts fault → IsDemuxedRefused demuxed fault
   bad_audio : (kept : List (ℕ × ℕ)) (first : TimedPicture) (pictures : List TimedPicture) (dropped : ℕ) → HasPictures demuxed kept first pictures dropped

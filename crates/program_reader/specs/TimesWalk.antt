@@ -1,6 +1,6 @@
 -- Where a look-up of the times of units stands, while the PES packets of their video pass.
 use Rattle.std.specs.Prelude.{◌≡◌, ℕ, ◌<◌, ◌≤◌, List, [], ◌∷◌, length, take, All}
-use Rattle.program_reader.specs.declared.pes_packets.PlacedPacket.{PlacedPacket}
+use Rattle.elementary_streams.specs.declared.pes_packets.PlacedPacket.{PlacedPacket}
 use Rattle.program_reader.specs.declared.times_walk.TimesWalk.{TimesWalk}
 
 -- the payloads of PES packets stand one behind the other, from a place up to another

@@ -14,7 +14,7 @@ use Rattle.picture_grammar.specs.Picture.{RefusesPicture}
 use Rattle.picture_grammar.specs.Refusal.{Refusal}
 use Rattle.picture_reader.specs.Picture.{IsPictureOf}
 use Rattle.program_reader.specs.declared.limits.TheConstants.{UNIT_BYTES_MOST}
-use Rattle.program_reader.specs.declared.pes_packets.PlacedPacket.{PlacedPacket}
+use Rattle.elementary_streams.specs.declared.pes_packets.PlacedPacket.{PlacedPacket}
 use Rattle.program_reader.specs.declared.program_fault.ProgramFault.{ProgramFault}
 use Rattle.program_reader.specs.declared.program_fault.ProgramFault.TheVariants.{Refused}
 use Rattle.program_reader.specs.declared.program_fault.SourceKind.TheVariants as kinds

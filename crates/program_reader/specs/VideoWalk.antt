@@ -11,15 +11,17 @@ use Rattle.ts_demux.specs.declared.demuxed.PesUnit.{PesUnit}
 use Rattle.version_table.specs.declared.limits.TheConstants.{VERSIONS_MOST}
 use Rattle.program_reader.specs.declared.limits.TheConstants.{FILE_BYTES_MOST, PES_PACKETS_MOST}
 use Rattle.program_reader.specs.declared.passed_units.PassedUnits.{PassedUnits}
-use Rattle.program_reader.specs.declared.pes_packets.PlacedPacket.{PlacedPacket}
+use Rattle.elementary_streams.specs.declared.pes_packets.PlacedPacket.{PlacedPacket}
+use Rattle.elementary_streams.specs.declared.stream_fault.StreamFault.{StreamFault}
 use Rattle.program_reader.specs.declared.program_fault.ProgramFault.{ProgramFault}
 use Rattle.program_reader.specs.declared.timed_picture.TimedPicture.{TimedPicture}
 use Rattle.program_reader.specs.declared.unit_sizes.SizesWanted.{SizesWanted}
 use Rattle.program_reader.specs.declared.video_places.VideoPlaces.{VideoPlaces}
 use Rattle.program_reader.specs.declared.video_walk.VideoWalk.{VideoWalk}
 use Rattle.program_reader.specs.declared.video_walk.WalkedVideo.{WalkedVideo}
+use Rattle.program_reader.specs.Faults.{of_stream}
 use Rattle.program_reader.specs.KeptUnits.{AreRows, first_of, kept_at}
-use Rattle.program_reader.specs.Packets.{IsPacketFault, joined, packets_dropped, placed_from}
+use Rattle.elementary_streams.specs.Packets.{IsPacketFault, joined, packets_dropped, placed_from}
 use Rattle.program_reader.specs.Programs.{HasPictures}
 use Rattle.program_reader.specs.Sizes.{AreSizedSoFar}
 use Rattle.program_reader.specs.TimesWalk.{HasPassed}
@@ -92,7 +94,8 @@ pub record HasRead (packets : List PesUnit) (walk : VideoWalk) : Type 0 where
 
 -- whatever packets follow this one, it is the first of the video that has a fault, and has this one
 abbrev pub IsFaultBefore : List PesUnit → PesUnit → ProgramFault → Type 0
-IsFaultBefore packets packet fault = (next : PesUnit) (more : List PesUnit) → IsPacketFault true (packets ++ packet ∷ next ∷ more) fault
+IsFaultBefore packets packet fault = (next : PesUnit) (more : List PesUnit) →
+    (found : StreamFault) × IsPacketFault true (packets ++ packet ∷ next ∷ more) found × (fault ≡ of_stream found)
 
 -- ---- at its end
 

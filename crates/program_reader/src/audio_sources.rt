@@ -2,15 +2,15 @@
 ghost use Rattle.std.specs.Prelude.{◌≤◌, ◌<◌, ◌^◌, length, map, All, IfOk};
 ghost use Rattle.std.specs.List.{sum_by};
 ghost use Rattle.program_reader.specs.Audio.{IsAudioSource, AreAudioSources};
-ghost use Rattle.program_reader.specs.Private.Dues.{IsTime};
+ghost use Rattle.elementary_streams.specs.NearTimes.{IsTime};
 ghost use Rattle.program_reader.specs.Private.Sources.{IsStreamFrom, AreStreamsFrom};
 
-use crate::audio_stream::ReadStream;
 use crate::due::DueClock;
 use crate::limits::{FILE_BYTES_MOST, PES_PACKETS_MOST};
 use crate::packet_bytes::packet_bytes;
 use crate::pieces::audio_pieces;
 use crate::program::AudioSource;
+use elementary_streams::ReadStream;
 use list_types::{ListOf, OutOfMemory};
 use std::alloc::Global;
 use stream_constants::limits::AUDIOS_MOST;

@@ -1,34 +1,14 @@
 //! The stream types of the audio streams of a program stream (ISO/IEC 13818-1, Table 2-34).
-ghost use Rattle.std.specs.Prelude.{◌≡◌, ◌≤◌, List, length, map};
-ghost use Rattle.ts_demux.specs.declared.demuxed.AudioStream.{AudioStream};
-ghost use Rattle.program_reader.specs.Packets.{joined};
-ghost use Rattle.program_reader.specs.Audio.{taken_of};
-ghost use Rattle.program_reader.specs.AudioTypes.{audio_type, with_audio_types, map_by_form};
+ghost use Rattle.std.specs.Prelude.{◌≡◌, ◌≤◌, length, map};
+ghost use Rattle.elementary_streams.specs.Audio.{audio_type};
+ghost use Rattle.program_reader.specs.AudioTypes.{with_audio_types, map_by_form};
 
-use crate::audio_stream::ReadStream;
-use audio_frames::has_low_rate;
+use elementary_streams::ReadStream;
 use job_report::Form;
 use program_stream::map_stream;
 use psi_tables::ProgramMap;
 use stream_constants::limits::AUDIOS_MOST;
 use ts_demux::AudioStream;
-
-/// `stream_type` of audio of ISO/IEC 11172-3.
-const AUDIO: u8 = 0x03;
-
-/// `stream_type` of audio of ISO/IEC 13818-3, whose sampling rates are low.
-const LOW_RATE_AUDIO: u8 = 0x04;
-
-/// The type of an audio stream, by its joined payload.
-pub fn audio_type(payload: &[u8]) -> u8
-    ensures { (stream : AudioStream) → payload.now ≡ joined (taken_of stream) → result ≡ audio_type stream }
-{
-    if has_low_rate(payload) {
-        LOW_RATE_AUDIO
-    } else {
-        AUDIO
-    }
-}
 
 /// The map of streams that stand in a file of a form and are read: in that of a program stream each audio stream has the type of its first
 /// frame.

@@ -2,13 +2,14 @@
 ghost use Rattle.std.specs.Prelude.{◌≡◌, ◌<◌, ◌^◌, ◌∷◌, [], map, All, IfOk};
 ghost use Rattle.program_reader.specs.Audio.{IsDue};
 ghost use Rattle.program_reader.specs.Programs.{IsBase};
-ghost use Rattle.program_reader.specs.Private.Dues.{IsTime, IsTimeFrom, Lowers, IsDueUnit, AreDueUnits};
+ghost use Rattle.elementary_streams.specs.NearTimes.{IsTime};
+ghost use Rattle.program_reader.specs.Private.Dues.{IsTimeFrom, Lowers, IsDueUnit, AreDueUnits};
 ghost use Rattle.program_reader.specs.Private.Sources.{frame_times};
 
-use crate::audio_stream::ReadStream;
 use crate::kept_units::KeptUnit;
 use crate::program::UnitSource;
 use audio_frames::Frame;
+use elementary_streams::ReadStream;
 use list_types::{ListOf, OutOfMemory};
 use std::alloc::Global;
 use stream_constants::clock::TICKS_PER_TIME_UNIT;

@@ -5,15 +5,15 @@ ghost use Rattle.ts_demux.specs.declared.demuxed.PesUnit.{PesUnit};
 ghost use Rattle.program_reader.specs.KeptUnits.{kept_at};
 ghost use Rattle.program_reader.specs.Programs.{IsProgram, all_packets_dropped};
 ghost use Rattle.program_reader.specs.Sizes.{stands_at};
-ghost use Rattle.program_reader.specs.Private.AudioStarts.{AreStreamsRead};
+ghost use Rattle.program_reader.specs.Private.AudioStreams.{AreStreamsRead};
 ghost use Rattle.program_reader.specs.Private.Sources.{IsVideoRead, with_video};
 
 use crate::audio_sources::audio_sources;
-use crate::audio_stream::ReadStream;
 use crate::due::due_units;
 use crate::limits::{FILE_BYTES_MOST, PES_PACKETS_MOST, UNITS_MOST};
 use crate::program::Program;
 use crate::video_stream::ReadVideo;
+use elementary_streams::ReadStream;
 use list_types::{ListOf, OutOfMemory};
 use psi_tables::ProgramMap;
 use std::alloc::Global;

@@ -1,5 +1,5 @@
 //! The units of a video that are kept, with their times.
-ghost use Rattle.std.specs.Prelude.{◌≡◌, ◌⊎◌, ◌+◌, ◌≤◌, ◌<◌, ◌^◌, ◌++◌, ◌∷◌, [], All, length, Some, None, true, map, IfOk, MatchResult, OnOk, unwrap_or};
+ghost use Rattle.std.specs.Prelude.{◌≡◌, ◌⊎◌, ◌+◌, ◌≤◌, ◌<◌, ◌++◌, ◌∷◌, [], length, Some, None, true, map, IfOk, MatchResult, OnOk, unwrap_or};
 ghost use Rattle.program_reader.specs.declared.program_fault.ProgramFault.TheVariants.{OutOfMemory};
 ghost use Rattle.program_reader.specs.KeptUnits.{row_of, kept_at};
 ghost use Rattle.program_reader.specs.Units.{IsUnitsFault};
@@ -7,13 +7,13 @@ ghost use Rattle.program_reader.specs.Private.KeptUnits.{IsVideo, Fits, AreUnits
 ghost use Rattle.program_reader.specs.Sizes.{AreUnitSizes};
 
 use crate::limits::FILE_BYTES_MOST;
-use crate::pes_packets::TakenPackets;
 use crate::picture_times::stamped_pictures;
 use crate::program_fault::ProgramFault;
 use crate::stamp_walk::unit_times;
 use crate::timed_picture::{Role, TimedPicture};
 use crate::unit_picture::{TimedUnit, unit_picture};
 use crate::unit_sizes::{SizesWanted, UnitSizes};
+use elementary_streams::TakenPackets;
 use pes_units::Times;
 use std::alloc::{AllocError, Global};
 use version_maker::Ladder;

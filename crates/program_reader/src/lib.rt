@@ -8,8 +8,7 @@
 #![tactic(auto)]
 
 mod audio_sources;
-mod audio_starts;
-mod audio_stream;
+mod audio_streams;
 mod audio_types;
 mod carry;
 mod cut_places;
@@ -22,7 +21,6 @@ pub mod laws;
 pub mod limits;
 mod packet_bytes;
 mod passed_units;
-mod pes_packets;
 mod picture_times;
 mod pieces;
 mod program;
@@ -40,9 +38,8 @@ mod video_walk;
 
 pub use carry::unit_weight;
 pub use kept_units::KeptUnit;
-pub use pes_packets::PlacedPacket;
 pub use program::{AudioPiece, AudioSource, Program, UnitSource};
-pub use program_fault::{ProgramFault, SourceKind};
+pub use program_fault::{ProgramFault, SourceKind, audio_refused, demux_refused, pes_refused};
 pub use reading::{SizedProgram, read_program, read_sized_program};
 pub use timed_picture::{Role, TimedPicture};
 pub use times_walk::TimesWalk;

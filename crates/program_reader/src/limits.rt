@@ -10,9 +10,8 @@ const _: () = prove!(FILE_BYTES_MOST == 1 << 40);
 
 const _: () = prove!(FILE_BYTES_MOST as u64 <= audio_frames::PAYLOAD_BYTES_MOST);
 
-/// PES packets of a carried stream, at most. Each may be half a round of the clock later than the one before, and the times of all
-/// are numbers of 64 bits in ticks.
-pub const PES_PACKETS_MOST: usize = 4_000_000;
+/// PES packets of a carried stream, at most: as many as have times on one axis.
+pub const PES_PACKETS_MOST: usize = elementary_streams::PES_PACKETS_MOST;
 /// Units of all programs of a job, at most: as many as a table may have.
 pub const UNITS_MOST: usize = limits::UNITS_MOST;
 /// Due and gone times of a job are at most this many slots: as those of a table may be.

@@ -2,7 +2,7 @@
 ghost use Rattle.std.specs.Prelude.{◌≡◌, ◌≤◌, length, take, IfOk};
 ghost use Rattle.std.specs.List.{flat_map};
 
-use crate::pes_packets::bytes_of;
+use elementary_streams::bytes_of;
 use list_types::{ListOf, OutOfMemory};
 use std::alloc::Global;
 use ts_demux::PesUnit;

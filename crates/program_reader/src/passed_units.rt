@@ -3,10 +3,10 @@ ghost use Rattle.std.specs.Prelude.{◌≡◌, ℕ, ◌≤◌, ◌<◌, ◌^◌,
 ghost use Rattle.es_units.specs.UnitCutter.{place_of};
 ghost use Rattle.pes_units.specs.Times.{decoding_time};
 ghost use Rattle.ts_demux.specs.declared.demuxed.PesUnit.{PesUnit};
-ghost use Rattle.program_reader.specs.declared.pes_packets.PlacedPacket.{PlacedPacket};
+ghost use Rattle.elementary_streams.specs.declared.pes_packets.PlacedPacket.{PlacedPacket};
 ghost use Rattle.program_reader.specs.declared.timed_picture.TimedPicture.{TimedPicture};
 ghost use Rattle.program_reader.specs.Intervals.{nearest};
-ghost use Rattle.program_reader.specs.Packets.{joined};
+ghost use Rattle.elementary_streams.specs.Packets.{joined};
 ghost use Rattle.program_reader.specs.PictureTimes.{times_of_unit};
 ghost use Rattle.program_reader.specs.TimesWalk.{HasPassed};
 ghost use Rattle.program_reader.specs.Units.{state_behind, unit_bytes};

@@ -2,7 +2,7 @@
 ghost use Rattle.std.specs.Prelude.{◌≡◌, ◌≤◌, length, All, IfOk};
 ghost use Rattle.program_reader.specs.Private.StampedPictures.{stamps_of};
 
-use crate::pes_packets::PlacedPacket;
+use elementary_streams::PlacedPacket;
 use es_units::find_picture;
 use pes_units::Times;
 use std::alloc::{AllocError, Global};

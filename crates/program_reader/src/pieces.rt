@@ -1,15 +1,16 @@
 //! The pieces of audio PES packets, each sent in one transport packet.
 ghost use Rattle.std.specs.Prelude.{◌≡◌, ◌≤◌, ◌<◌, ◌+◌, ◌-◌, ◌/◌, ◌^◌, ℕ, length, All, IfOk, OnOk};
 ghost use Rattle.program_reader.specs.Audio.{time_of_byte, payload_place, packet_size, piece_size, placed_pieces, IsPiece, ArePieces};
-ghost use Rattle.program_reader.specs.Private.Dues.{IsTime, IsTimeFrom};
+ghost use Rattle.elementary_streams.specs.NearTimes.{IsTime};
+ghost use Rattle.program_reader.specs.Private.Dues.{IsTimeFrom};
 ghost use Rattle.program_reader.specs.Private.Pieces.{HasTimes, IsSized, Follow, AddsPieces, TellsFrom};
 
 use crate::due::DueClock;
 use crate::frame_walk::byte_time;
 use crate::limits::{PES_PACKETS_MOST, PIECE_BYTES};
-use crate::pes_packets::PlacedPacket;
 use crate::program::AudioPiece;
 use audio_frames::Frame;
+use elementary_streams::PlacedPacket;
 use list_types::{ListOf, OutOfMemory};
 use std::alloc::Global;
 use version_table::AudioPacket;

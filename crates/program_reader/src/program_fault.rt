@@ -1,7 +1,8 @@
 ghost use Rattle.std.specs.Prelude.{◌≡◌};
-ghost use Rattle.program_reader.specs.Faults.{of_demux, of_split, of_pes, of_audio};
+ghost use Rattle.program_reader.specs.Faults.{of_demux, of_split, of_pes, of_audio, of_stream};
 
 use audio_frames::AudioFault;
+use elementary_streams::StreamFault;
 use list_types::OutOfMemory;
 use pes_units::PesFault;
 use program_stream::SplitFault;
@@ -92,6 +93,8 @@ pub enum SourceKind {
     AudioSync,
     /// The first audio frame has no time.
     NoAudioTime,
+    /// No program clock reference on the PID that the map says: of a program that is audited alone.
+    NoPcr,
     /// A limit of this project is passed.
     ProgramLimit,
 }
@@ -142,7 +145,7 @@ impl<T: Drop> From<AllocFailed<T>> for ProgramFault {
 }
 
 /// What the transport packets and the tables are refused for.
-pub(crate) fn demux_refused(fault: DemuxFault) -> ProgramFault
+pub fn demux_refused(fault: DemuxFault) -> ProgramFault
     ensures { result ≡ of_demux fault }
 {
     let (kind, at) = match fault {
@@ -183,7 +186,7 @@ pub(crate) fn split_refused(fault: SplitFault) -> ProgramFault
 }
 
 /// What a PES packet at a place of the file is refused for.
-pub(crate) fn pes_refused(at: u64, fault: PesFault) -> ProgramFault
+pub fn pes_refused(at: u64, fault: PesFault) -> ProgramFault
     ensures { result ≡ of_pes at fault }
 {
     let kind = match fault {
@@ -197,7 +200,7 @@ pub(crate) fn pes_refused(at: u64, fault: PesFault) -> ProgramFault
 }
 
 /// What the frames of an audio stream are refused for.
-pub(crate) fn audio_refused(fault: AudioFault) -> ProgramFault
+pub fn audio_refused(fault: AudioFault) -> ProgramFault
     ensures { result ≡ of_audio fault }
 {
     let (kind, at) = match fault {
@@ -208,4 +211,15 @@ pub(crate) fn audio_refused(fault: AudioFault) -> ProgramFault
         AudioFault::OutOfMemory => return ProgramFault::OutOfMemory,
     };
     ProgramFault::Refused { kind, at }
+}
+
+/// What an elementary stream is refused for.
+pub(crate) fn stream_refused(fault: StreamFault) -> ProgramFault
+    ensures { result ≡ of_stream fault }
+{
+    match fault {
+        StreamFault::Pes { at, fault } => pes_refused(at, fault),
+        StreamFault::Frames(fault) => audio_refused(fault),
+        StreamFault::OutOfMemory => ProgramFault::OutOfMemory,
+    }
 }

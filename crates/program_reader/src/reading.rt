@@ -6,7 +6,7 @@ ghost use Rattle.program_reader.specs.Programs.{all_packets_dropped, HasFewPacke
 ghost use Rattle.program_reader.specs.AudioTypes.{typed};
 ghost use Rattle.program_reader.specs.Sizes.{AreProgramSizes};
 
-use crate::audio_stream::read_streams;
+use crate::audio_streams::read_streams;
 use crate::audio_types::map_by_form;
 use crate::due_program::{BesideVideo, due_program};
 use crate::found_streams::{FoundStreams, find_streams};

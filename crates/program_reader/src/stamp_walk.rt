@@ -1,6 +1,6 @@
 //! The times of units, looked up one behind the other.
-ghost use Rattle.std.specs.Prelude.{◌≡◌, ◌≤◌, ◌+◌, ℕ, List, length};
-ghost use Rattle.program_reader.specs.declared.pes_packets.PlacedPacket.{PlacedPacket};
+ghost use Rattle.std.specs.Prelude.{◌≡◌, ◌≤◌, ◌+◌, List, length};
+ghost use Rattle.elementary_streams.specs.declared.pes_packets.PlacedPacket.{PlacedPacket};
 ghost use Rattle.program_reader.specs.PictureTimes.{times_of_unit};
 ghost use Rattle.program_reader.specs.Private.StampedPictures.{times_of_stamp, AreRising, Leaves, TellTimes, IsCounted};
 

@@ -3,7 +3,7 @@ ghost use Rattle.std.specs.Prelude.{◌≡◌, ◌≤◌, ◌<◌, ◌^◌, ℕ,
 ghost use Rattle.std.specs.Option.{option_copied};
 ghost use Rattle.pes_units.specs.Times.{decoding_time};
 ghost use Rattle.picture_grammar.specs.Macroblock.{is_frame};
-ghost use Rattle.program_reader.specs.declared.pes_packets.PlacedPacket.{PlacedPacket};
+ghost use Rattle.elementary_streams.specs.declared.pes_packets.PlacedPacket.{PlacedPacket};
 ghost use Rattle.program_reader.specs.PictureTimes.{times_of_unit};
 ghost use Rattle.program_reader.specs.Intervals.{begins_reference, frame_period, frame_shown, is_b, nearest, shown_as, shown_meanwhile};
 ghost use Rattle.program_reader.specs.Units.{ticks_behind, role_behind, role_of, IsUnpaired, IsTimed, HasNoTime, IsLater, IsCoded, IsNext, IsUnitRefused};
@@ -11,6 +11,7 @@ ghost use Rattle.program_reader.specs.Private.TimedPictures.{IsPossible, IsShown
 
 use crate::limits::UNIT_BYTES_MOST;
 use crate::program_fault::{ProgramFault, SourceKind};
+use elementary_streams::decoding_time;
 use pes_units::{Times, unwrap_time};
 use stream_constants::clock::TICKS_PER_TIME_UNIT;
 use syntax_types::{B_PICTURE, FRAME_PICTURE, PicCoding, SeqState};
@@ -330,16 +331,6 @@ fn frame_period(rate_code: u8) -> u32
     ensures most { result ≤ 1126125 }
 {
     FRAME_PERIODS[rate_code as usize - 1]
-}
-
-/// The DTS, or the PTS where none stands.
-pub fn decoding_time(times: Times) -> Option<u64>
-    ensures { result ≡ decoding_time times }
-{
-    match times.dts {
-        Some(dts) => Some(dts),
-        None => times.pts,
-    }
 }
 
 /// True where a time is later than that of the picture before.

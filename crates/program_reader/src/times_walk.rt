@@ -5,8 +5,8 @@ ghost use Rattle.program_reader.specs.PictureTimes.{times_of_unit};
 ghost use Rattle.program_reader.specs.TimesWalk.{HasPassed, Join};
 ghost use Rattle.program_reader.specs.Private.TimesWalk.{EndsWith, IsNextOf, times_behind};
 
-use crate::pes_packets::PlacedPacket;
 use crate::stamp_walk::NO_TIMES;
+use elementary_streams::PlacedPacket;
 use pes_units::Times;
 
 /// How many pictures and how many PES packets of a video are passed by. It stands before the units that are looked up next.

@@ -2,7 +2,7 @@
 ghost use Rattle.std.specs.Prelude.{◌≡◌, ◌≤◌, ◌<◌, ◌^◌, ℕ, List, length, IfSome, IfOk, MatchResult};
 ghost use Rattle.std.specs.Option.{option_copied};
 ghost use Rattle.pes_units.specs.Times.{decoding_time};
-ghost use Rattle.program_reader.specs.declared.pes_packets.PlacedPacket.{PlacedPacket};
+ghost use Rattle.elementary_streams.specs.declared.pes_packets.PlacedPacket.{PlacedPacket};
 ghost use Rattle.picture_reader.specs.PictureFault.{refusal_told};
 ghost use Rattle.program_reader.specs.PictureTimes.{times_of_unit};
 ghost use Rattle.program_reader.specs.Intervals.{nearest};

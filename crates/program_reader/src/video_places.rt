@@ -3,10 +3,10 @@ ghost use Rattle.std.specs.Prelude.{◌≡◌, ℕ, ◌+◌, ◌<◌, ◌≤◌,
 ghost use Rattle.es_units.specs.PictureFinder.{HasFound, bytes_passed};
 ghost use Rattle.pes_units.specs.PesHeader.{pes_fields_of};
 ghost use Rattle.ts_demux.specs.declared.demuxed.PesUnit.{PesUnit};
-ghost use Rattle.program_reader.specs.Packets.{pes_payload_of};
+ghost use Rattle.elementary_streams.specs.Packets.{pes_payload_of};
 ghost use Rattle.program_reader.specs.VideoWalk.{Stand};
 
-use crate::pes_packets::PlacedPacket;
+use elementary_streams::PlacedPacket;
 use es_units::PictureFinder;
 use list_types::OutOfMemory;
 use pes_units::PesHeader;

@@ -1,5 +1,5 @@
 //! The video of a program: its PES packets, and its units with their pictures and times.
-ghost use Rattle.std.specs.Prelude.{◌≡◌, ◌⊎◌, ◌≤◌, ◌<◌, ◌^◌, [], None, length, map, true, IfOk, MatchResult, Some};
+ghost use Rattle.std.specs.Prelude.{◌≡◌, ◌⊎◌, ◌≤◌, ◌<◌, [], None, length, map, true, IfOk, MatchResult, Some};
 ghost use Rattle.std.specs.List.{sum_by};
 ghost use Rattle.ts_demux.specs.declared.demuxed.Demuxed.{Demuxed};
 ghost use Rattle.es_units.specs.Units.{cut_units};
@@ -9,17 +9,16 @@ ghost use Rattle.program_reader.specs.Programs.{IsDemuxedRefused};
 ghost use Rattle.program_reader.specs.Sizes.{AreUnitSizes};
 ghost use Rattle.program_reader.specs.Private.KeptUnits.{AreUnitsKept};
 ghost use Rattle.program_reader.specs.Private.Sources.{IsVideoRead};
-ghost use Rattle.program_reader.specs.Private.TakenPackets.{AreTaken};
+ghost use Rattle.elementary_streams.specs.Taken.{AreTaken};
 
-use crate::audio_starts::AxisTime;
 use crate::cut_places::cut_places;
 use crate::due::EarliestTime;
 use crate::kept_units::{KeptUnit, KeptUnits, keep_units};
 use crate::limits::{FILE_BYTES_MOST, PES_PACKETS_MOST};
-use crate::pes_packets::{TakenPackets, take_packets};
-use crate::program_fault::{ProgramFault, SourceKind};
+use crate::program_fault::{ProgramFault, SourceKind, stream_refused};
 use crate::timed_picture::TimedPicture;
 use crate::unit_sizes::{SizesWanted, UnitSizes};
+use elementary_streams::{AxisTime, TakenPackets, take_packets};
 use es_units::{UnitFault, Units, split_units};
 use list_types::ListOf;
 use std::alloc::Global;
@@ -65,7 +64,7 @@ pub fn read_video(
     cut_places();
     let taken = match take_packets(alloc, packets.as_slice(), true) {
         Ok(taken) => taken,
-        Err(fault) => return Err(fault),
+        Err(fault) => return Err(stream_refused(fault)),
     };
     let units = match split_units(alloc, taken.payload.as_slice()) {
         Ok(units) => units,

@@ -13,18 +13,19 @@ use Rattle.version_table.specs.declared.table.AudioPacket.{AudioPacket}
 use Rattle.version_table.specs.Table.{IsValidAudio, IsValidPacket}
 use Rattle.program_reader.specs.declared.program.AudioPiece.{AudioPiece}
 use Rattle.program_reader.specs.declared.program.AudioSource.{AudioSource}
-use Rattle.program_reader.specs.Audio.{AreAudioSources, HasFrames, HaveFrames, IsAudioSource, placed_pieces, taken_of}
-use Rattle.program_reader.specs.Packets.{joined, placed_from}
+use Rattle.program_reader.specs.Audio.{AreAudioSources, HaveFrames, IsAudioSource, placed_pieces}
+use Rattle.elementary_streams.specs.Audio.{HasFrames, taken_of}
+use Rattle.elementary_streams.specs.Packets.{joined, placed_from}
 use Rattle.job_programs.specs.Programs.{last_time}
 use Rattle.job_programs.specs.Share.{audio_packets}
-use Rattle.program_reader.proofs.StreamLemmas.{taken_payloads}
+use Rattle.elementary_streams.proofs.StreamLemmas.{taken_payloads}
 use Rattle.program_table.specs.Table.{audio_row}
 use Rattle.program_table.proofs.AudioTimes.{Follow, InOrder, Reach, Rise, follow-of, pieces-in-order, reach-of, rise-of}
 
 -- ---- numbers that don't fall
 
 -- each number is at least as great as this one, and as the one before
-abbrev Mount : (low : ℕ) → List ℕ → Type 0
+abbrev pub Mount : (low : ℕ) → List ℕ → Type 0
 Mount low [] = Unit {0}
 Mount low (n ∷ ns) = (low ≤ n) × Mount n ns
 
@@ -38,7 +39,7 @@ mount-least low (n ∷ ns) zero d mount within = mount.0
 mount-least low (n ∷ ns) (suc j) d mount within =
     let rest : n ≤ slice_index_or ns j d = mount-least n ns j d mount.1 (omega (arith, within)) in omega (arith, rest, mount.0)
 
-mount-rises : (low : ℕ) (ns : List ℕ) → Mount low ns → IsNonDecreasing ns
+pub mount-rises : (low : ℕ) (ns : List ℕ) → Mount low ns → IsNonDecreasing ns
 mount-rises low [] mount i j d order within = absurd (omega (arith, within))
 mount-rises low (n ∷ ns) mount zero zero d order within = omega arith
 mount-rises low (n ∷ ns) mount zero (suc j) d order within = mount-least n ns j d mount.1 (omega (arith, within))

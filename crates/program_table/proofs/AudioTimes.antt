@@ -47,12 +47,12 @@ use Rattle.audio_frames.specs.declared.frame.Frame.{Frame}
 use Rattle.audio_frames.specs.Times.{AreRising, frame_time_at}
 use Rattle.list_types.specs.Spans.{spans}
 use Rattle.ts_demux.specs.declared.demuxed.PesUnit.{PesUnit}
-use Rattle.program_reader.specs.declared.pes_packets.PlacedPacket.{PlacedPacket}
+use Rattle.elementary_streams.specs.declared.pes_packets.PlacedPacket.{PlacedPacket}
 use Rattle.program_reader.specs.declared.program.AudioPiece.{AudioPiece}
 use Rattle.program_reader.specs.Audio.{ArePieces, IsDue, IsPiece, packet_size, payload_place, piece_size, placed_pieces, time_of_byte}
-use Rattle.program_reader.specs.Packets.{joined, pes_payload_of, placed_from}
-use Rattle.program_reader.proofs.StreamLemmas.{HasPayload}
-use Rattle.program_reader.proofs.TakenLemmas.{placed_at}
+use Rattle.elementary_streams.specs.Packets.{joined, pes_payload_of, placed_from}
+use Rattle.elementary_streams.proofs.StreamLemmas.{HasPayload}
+use Rattle.elementary_streams.proofs.TakenLemmas.{placed_at}
 
 -- ---- frames
 

@@ -1,4 +1,4 @@
-mod AudioLimits
+pub mod AudioLimits
 mod AudioTimes
 mod Examples
 pub mod Rows

@@ -10,7 +10,8 @@ use Rattle.program_stream.specs.Split.{IsSplit}
 use Rattle.program_stream.specs.Streams.{carried_audio_ids, map_stream, stream_with_id}
 use Rattle.job_report.specs.declared.job.Form.{Form}
 use Rattle.job_report.specs.declared.job.Form.TheVariants.{Ts, Ps}
-use Rattle.program_reader.specs.AudioTypes.{audio_type, typed}
+use Rattle.elementary_streams.specs.Audio.{audio_type}
+use Rattle.program_reader.specs.AudioTypes.{typed}
 use Rattle.program_reader.specs.Programs.{IsTakenOut, StandIn, in_packets, in_elements}
 
 -- an audio stream of a program stream with its type

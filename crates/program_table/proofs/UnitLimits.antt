@@ -16,7 +16,7 @@ use Rattle.pes_units.specs.declared.times.Times.{Times}
 use Rattle.pes_units.specs.VideoHeader.{spelled, written_dts, written_pes_header}
 use Rattle.version_table.specs.declared.table.Version.{Version}
 use Rattle.version_table.specs.Table.{IsValidUnit, IsValidVersion, greatest, greatest_distortion}
-use Rattle.program_reader.specs.declared.pes_packets.PlacedPacket.{PlacedPacket}
+use Rattle.elementary_streams.specs.declared.pes_packets.PlacedPacket.{PlacedPacket}
 use Rattle.program_reader.specs.declared.program.UnitSource.{UnitSource}
 use Rattle.program_reader.specs.declared.unit_sizes.UnitSizes.{UnitSizes}
 use Rattle.program_reader.specs.Carry.{unit_weight}

@@ -5,7 +5,7 @@ use Rattle.shelf_io.specs.Files.{Files}
 use Rattle.command_words.specs.declared.status.Status.{Status}
 use Rattle.command_words.specs.declared.status.Status.TheVariants as statuses
 use Rattle.command_words.specs.Answer.{Answer, EndsWithStatus, Decides, HasCause, AnswerHasCause}
-use Rattle.command_words.specs.Command.{Command, Plan, Gen, Run, Check, Probe, CheckPlan, Impossible, Fit, IsCommand, IsSaid}
+use Rattle.command_words.specs.Command.{Command, Plan, Gen, Run, Check, Probe, CheckPlan, Impossible, Fit, Audit, IsCommand, IsSaid}
 use Rattle.command_words.specs.Outside.{ShelfFacts, SinkFacts, OnFiles}
 use Rattle.command_words.specs.Status.{IsSameStatus}
 use Rattle.command_words.specs.Task.{OthersStay, no_task}
@@ -28,6 +28,7 @@ done_is_called_for (Some (Probe file number table)) files after line (program, m
 done_is_called_for (Some (CheckPlan table certificate)) files after line (made, cert, is, said, same) = (made, cert, is.table_is, is.cert_is, is.faultless)
 done_is_called_for (Some (Impossible table)) files after line ((made, holds, report, is, said), same) = (made, holds)
 done_is_called_for (Some (Fit name list)) files after line ((job, slots, made, verdicts, fit, is, are, greatest, runs, said), same) = (job, slots, made, fit, is, greatest)
+done_is_called_for (Some (Audit file number slot)) files after line ((is, said), same) = is
 done_is_called_for None files after line done = absurd done
 
 -- where nothing failed, a command ends as it is called for
@@ -43,6 +44,7 @@ answer_is_called_for command files after old new out_old out_new statuses.Missin
 answer_is_called_for command files after old new out_old out_new statuses.ReadFault line ends cause none = absurd (none.faults cause.rises)
 answer_is_called_for command files after old new out_old out_new statuses.WriteFault line ends cause none = absurd (none.write_faults cause.rises)
 answer_is_called_for command files after old new out_old out_new statuses.OutOfMemory line ends cause none = absurd ends
+answer_is_called_for command files after old new out_old out_new (statuses.AuditFault finding) line ends cause none = ends.0
 answer_is_called_for command files after old new out_old out_new statuses.NoFit line ends cause none = ends.0
 
 -- a report that broke off is a write fault or want of memory
@@ -57,6 +59,7 @@ break_is answer old new (statuses.SourceRefused fault) breaks = absurd breaks
 break_is answer old new (statuses.CertRefused refusal) breaks = absurd breaks
 break_is answer old new statuses.ReadFault breaks = absurd breaks
 break_is answer old new statuses.Missing breaks = absurd breaks
+break_is answer old new (statuses.AuditFault finding) breaks = absurd breaks
 break_is answer old new statuses.NoFit breaks = absurd breaks
 
 -- and where nothing failed, want of memory
@@ -72,6 +75,7 @@ quiet_break answer old new out_old out_new (statuses.SourceRefused fault) breaks
 quiet_break answer old new out_old out_new (statuses.CertRefused refusal) breaks none = absurd breaks
 quiet_break answer old new out_old out_new statuses.ReadFault breaks none = absurd breaks
 quiet_break answer old new out_old out_new statuses.Missing breaks none = absurd breaks
+quiet_break answer old new out_old out_new (statuses.AuditFault finding) breaks none = absurd breaks
 quiet_break answer old new out_old out_new statuses.NoFit breaks none = absurd breaks
 
 -- where nothing failed, the run ends as its words and files call for, or for want of memory
@@ -107,6 +111,7 @@ none_ends old new statuses.ReadFault line cause = absurd cause.asked.1
 none_ends old new statuses.WriteFault line cause = absurd cause.asked
 none_ends old new statuses.Missing line cause = absurd cause.asked.0.1
 none_ends old new statuses.OutOfMemory line cause = absurd cause
+none_ends old new (statuses.AuditFault finding) line cause = absurd cause.may
 none_ends old new statuses.NoFit line cause = absurd cause.1
 
 -- and no command ends with it
@@ -119,6 +124,7 @@ command_ends (Probe file number table) old new line cause = cause.1
 command_ends (CheckPlan table certificate) old new line cause = cause.1
 command_ends (Impossible table) old new line cause = cause.1
 command_ends (Fit job list) old new line cause = cause.1
+command_ends (Audit file number slot) old new line cause = cause.1
 
 -- Usage comes for words of no command alone
 usage_of : (words : List (List ℕ)) (old new : ShelfFacts) (out_old out_new : SinkFacts) (command : Option Command) (answer : Option Answer) (result : Status)
@@ -163,6 +169,7 @@ done_leaves_others (Some (Run job out certificate)) files after line (work, is, 
 done_leaves_others (Some (CheckPlan table certificate)) files after line (made, cert, is, said, same) = λ name apart. stays files after name same
 done_leaves_others (Some (Impossible table)) files after line (told, same) = λ name apart. stays files after name same
 done_leaves_others (Some (Fit job list)) files after line (told, same) = λ name apart. stays files after name same
+done_leaves_others (Some (Audit file number slot)) files after line (told, same) = λ name apart. stays files after name same
 done_leaves_others (Some (Check job certificate)) files after line (made, cert, is, said, same) = λ name apart. stays files after name same
 done_leaves_others (Some (Probe file number table)) files after line (program, made, has, said, written) = λ name apart.
     stays _ after name written ∙ get_other files table _ name apart
@@ -184,6 +191,7 @@ leaves_others (Some (Run job out certificate)) files after (inr (work, is, inr (
 leaves_others (Some (CheckPlan table certificate)) files after same = λ name apart. stays files after name same
 leaves_others (Some (Impossible table)) files after same = λ name apart. stays files after name same
 leaves_others (Some (Fit job list)) files after same = λ name apart. stays files after name same
+leaves_others (Some (Audit file number slot)) files after same = λ name apart. stays files after name same
 leaves_others (Some (Check job certificate)) files after same = λ name apart. stays files after name same
 leaves_others (Some (Probe file number table)) files after (inl same) = λ name apart. stays files after name same
 leaves_others (Some (Probe file number table)) files after (inr (program, made, has, k, few, written)) = λ name apart.
@@ -200,6 +208,7 @@ ends_leave_others command files after statuses.ReadFault line ends = λ name apa
 ends_leave_others command files after statuses.WriteFault line ends = leaves_others command files after ends
 ends_leave_others command files after statuses.Missing line ends = λ name apart. stays files after name ends.1
 ends_leave_others command files after statuses.OutOfMemory line ends = absurd ends
+ends_leave_others command files after (statuses.AuditFault finding) line ends = λ name apart. stays files after name ends.1
 ends_leave_others command files after statuses.NoFit line ends = λ name apart. stays files after name ends.1
 
 decides_leaves_others : (command : Option Command) (files after : Files) (answer : Option Answer) → Decides (task_of command) files answer after → OthersStay (task_of command) files after

@@ -10,7 +10,7 @@ use Rattle.command_words.specs.Outside.{ShelfFacts}
 use Rattle.command_words.specs.Report.{cert_report, refusal_report, miss_report}
 use Rattle.command_words.specs.Status.{TellsStatus}
 use Rattle.command_words.specs.Task.{Task}
-use Rattle.run_report.specs.Report.{source_report}
+use Rattle.run_report.specs.Report.{finding_report, source_report}
 
 pub tells_status : (task : Task) (old new : ShelfFacts) (status : Status) (line : List ℕ) → HasCause task old new status line
     → (status ≡ statuses.Ok → ⊥) → TellsStatus status line
@@ -30,4 +30,5 @@ tells_status task old new statuses.ReadFault line cause not_done = record { repo
 tells_status task old new statuses.WriteFault line cause not_done = record { report = reports.WriteFault cause.name; line_is = cause.names; told = refl }
 tells_status task old new statuses.Missing line cause not_done = record { report = reports.Missing cause.name; line_is = cause.names; told = refl }
 tells_status task old new statuses.OutOfMemory line cause not_done = absurd cause
+tells_status task old new (statuses.AuditFault finding) line cause not_done = record { report = finding_report finding; line_is = cause.says; told = refl }
 tells_status task old new statuses.NoFit line cause not_done = record { report = reports.NoFit cause.0; line_is = cause.2; told = refl }

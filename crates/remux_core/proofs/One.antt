@@ -1,11 +1,12 @@
 -- A command and files call for one status.
 use Rattle.std.proofs.Common.{◌≡◌, ℕ, List, Option, Some, None, refl, subst}
 use Rattle.shelf_io.specs.Files.{Files}
+use Rattle.audit_command.specs.AuditCommand.{AuditCallsFor}
 use Rattle.check_command.specs.CheckCommand.{CheckCallsFor}
 use Rattle.check_plan_command.specs.CheckPlanCommand.{CheckPlanCallsFor}
 use Rattle.command_words.specs.declared.status.Status.{Status}
 use Rattle.command_words.specs.declared.status.Status.TheVariants as statuses
-use Rattle.command_words.specs.Command.{Command, Plan, Gen, Run, Check, Probe, CheckPlan, Impossible, Fit}
+use Rattle.command_words.specs.Command.{Command, Plan, Gen, Run, Check, Probe, CheckPlan, Impossible, Fit, Audit}
 use Rattle.command_words.specs.Status.{IsSameStatus}
 use Rattle.command_words.specs.Task.{IsUsage}
 use Rattle.command_words.proofs.OneCommand.{one_command}
@@ -30,6 +31,8 @@ pub record Laws : Type 0 where
       → CheckPlanCallsFor table certificate (Some files) t → IsSameStatus s t
   pub impossible : (table : List ℕ) (files : Files) (s t : Status) → ImpossibleCallsFor table (Some files) s → ImpossibleCallsFor table (Some files) t → IsSameStatus s t
   pub fit : (name list : List ℕ) (files : Files) (s t : Status) → FitCallsFor name list (Some files) s → FitCallsFor name list (Some files) t → IsSameStatus s t
+  pub audit : (file : List ℕ) (number slot : ℕ) (files : Files) (s t : Status) → AuditCallsFor file number slot (Some files) s
+      → AuditCallsFor file number slot (Some files) t → IsSameStatus s t
 
 -- words of no command call for Usage alone
 usage_is_one : (s : Status) → IsUsage s → statuses.Usage ≡ s
@@ -43,6 +46,7 @@ usage_is_one statuses.ReadFault a = absurd a
 usage_is_one statuses.WriteFault a = absurd a
 usage_is_one statuses.Missing a = absurd a
 usage_is_one statuses.OutOfMemory a = absurd a
+usage_is_one (statuses.AuditFault finding) a = absurd a
 usage_is_one statuses.NoFit a = absurd a
 
 -- a command and files call for one status
@@ -56,6 +60,7 @@ calls_for_one laws (Some (Probe file number table)) files s t a b = laws.probe f
 calls_for_one laws (Some (CheckPlan table certificate)) files s t a b = laws.check_plan table certificate files s t a b
 calls_for_one laws (Some (Impossible table)) files s t a b = laws.impossible table files s t a b
 calls_for_one laws (Some (Fit job list)) files s t a b = laws.fit job list files s t a b
+calls_for_one laws (Some (Audit file number slot)) files s t a b = laws.audit file number slot files s t a b
 calls_for_one laws None files s t a b = both_one statuses.Usage s t (usage_is_one s a) (usage_is_one t b) refl
 
 -- words and files call for one status

@@ -1,8 +1,9 @@
 -- The task of each command.
 use Rattle.std.specs.Prelude.{Option, Some, None}
+use Rattle.audit_command.specs.AuditCommand.{audit_task}
 use Rattle.check_command.specs.CheckCommand.{check_task}
 use Rattle.check_plan_command.specs.CheckPlanCommand.{check_plan_task}
-use Rattle.command_words.specs.Command.{Command, Plan, Gen, Run, Check, Probe, CheckPlan, Impossible, Fit}
+use Rattle.command_words.specs.Command.{Command, Plan, Gen, Run, Check, Probe, CheckPlan, Impossible, Fit, Audit}
 use Rattle.command_words.specs.Task.{Task, no_task}
 use Rattle.fit_command.specs.FitCommand.{fit_task}
 use Rattle.gen_command.specs.GenCommand.{gen_task}
@@ -21,4 +22,5 @@ task_of (Some (Probe file number table)) = probe_task file number table
 task_of (Some (CheckPlan table certificate)) = check_plan_task table certificate
 task_of (Some (Impossible table)) = impossible_task table
 task_of (Some (Fit job list)) = fit_task job list
+task_of (Some (Audit file number slot)) = audit_task file number slot
 task_of None = no_task

@@ -22,6 +22,7 @@ ghost use Rattle.remux_core.specs.Outcome.{WordsCallFor};
 ghost use Rattle.remux_core.specs.Tasks.{task_of};
 
 use crate::top_call::run;
+use audit_command::laws::audit_calls_for_one;
 use check_command::laws::check_calls_for_one;
 use check_plan_command::laws::check_plan_calls_for_one;
 use command_words::Status;
@@ -49,6 +50,7 @@ pub fn one_status_is_called_for()
     check_plan_calls_for_one();
     impossible_calls_for_one();
     fit_calls_for_one();
+    audit_calls_for_one();
 }
 
 /// The line of each status but that of work that was done tells the exit status.

@@ -10,6 +10,8 @@ ghost use Rattle.remux_core.specs.Outcome.{Outcome, WordsCallFor};
 ghost use Rattle.remux_core.specs.Private.Performed.{PerformsWords};
 ghost use Rattle.remux_core.specs.Promises.{FaultsEnd, NoneFailed};
 
+use audit_command::audit_file;
+use audit_command::laws::audit_calls_for_one;
 use check_command::check_job;
 use check_command::laws::check_calls_for_one;
 use check_plan_command::check_plan;
@@ -39,7 +41,8 @@ use std::alloc::Global;
 /// programs and check the certificate in CERT. `probe FILE PROGRAM TABLE` write the table of one program of FILE to TABLE.
 /// `check-plan TABLE CERT` check the certificate in CERT for the table in TABLE. `impossible TABLE` tell whether it is shown of the
 /// table in TABLE that no choice is scheduled. `fit JOB LIST` tell in which of the slots in LIST the programs of the job in JOB
-/// fit. All other words are a usage fault. One line of JSON goes to `out` for each status but want of memory.
+/// fit. `audit FILE PROGRAM SLOT` judge one program of FILE, in slots of so many ticks, by the decoder's model. All other words are a
+/// usage fault. One line of JSON goes to `out` for each status but want of memory.
 pub fn run<K: Shelf, O: Sink>(alloc: Global, words: &[String], shelf: &mut K, out: &mut O) -> Status
     // What the words and files decide, what failed outside, how it is reported, and what every command promises.
     ensures outcome { Outcome (map string_bytes words.now)
@@ -81,6 +84,7 @@ pub fn run<K: Shelf, O: Sink>(alloc: Global, words: &[String], shelf: &mut K, ou
     check_plan_calls_for_one();
     impossible_calls_for_one();
     fit_calls_for_one();
+    audit_calls_for_one();
     let Some(ended) = perform(alloc, words, shelf) else {
         return Status::OutOfMemory;
     };
@@ -108,6 +112,7 @@ fn perform<K: Shelf>(alloc: Global, words: &[String], shelf: &mut K) -> Option<E
         Some(Parsed::CheckPlan(files)) => check_plan(alloc, &files, shelf),
         Some(Parsed::Impossible(files)) => judge_file(alloc, &files, shelf),
         Some(Parsed::Fit(files)) => fit_job(alloc, &files, shelf),
+        Some(Parsed::Audit(words)) => audit_file(alloc, &words, shelf),
         None => end_with(alloc, Status::Usage, &Report::Usage),
     }
 }

@@ -19,6 +19,7 @@ run_calls job out certificate told statuses.WriteFault calls = calls
 run_calls job out certificate told (statuses.CertRefused refusal) calls = calls
 run_calls job out certificate told statuses.Missing calls = calls
 run_calls job out certificate told statuses.OutOfMemory calls = calls
+run_calls job out certificate told (statuses.AuditFault finding) calls = calls
 run_calls job out certificate told statuses.NoFit calls = calls
 
 -- and may be refused for
@@ -33,6 +34,7 @@ run_may statuses.WriteFault may = may
 run_may (statuses.CertRefused refusal) may = may
 run_may statuses.Missing may = may
 run_may statuses.OutOfMemory may = may
+run_may (statuses.AuditFault finding) may = may
 run_may statuses.NoFit may = may
 
 pub run_reads_job : (job out certificate : List ℕ) → ReadsJob (run_task job out certificate) job (files_of_run job out certificate)

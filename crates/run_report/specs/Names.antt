@@ -1,9 +1,11 @@
--- The names of what refuses a program, and of what is wrong with a certificate.
+-- The names of what refuses a program, of what an audit finds, and of what is wrong with a certificate.
 use Rattle.std.specs.Prelude.{ℕ, List, codes}
 use Rattle.program_reader.specs.declared.program_fault.SourceKind.{SourceKind}
 use Rattle.program_reader.specs.declared.program_fault.SourceKind.TheVariants as kinds
 use Rattle.certificate_checker.specs.declared.why.Why.{Why}
 use Rattle.certificate_checker.specs.declared.why.Why.TheVariants as whys
+use Rattle.stream_audit.specs.declared.finding.FaultName.{FaultName}
+use Rattle.stream_audit.specs.declared.finding.FaultName.TheVariants as findings
 
 -- the name of a kind of refusal
 abbrev pub name_of_kind : SourceKind → List ℕ
@@ -47,7 +49,16 @@ name_of_kind kinds.TimeOrder = codes "TimeOrder"
 name_of_kind kinds.NotLayer2 = codes "NotLayer2"
 name_of_kind kinds.AudioSync = codes "AudioSync"
 name_of_kind kinds.NoAudioTime = codes "NoAudioTime"
+name_of_kind kinds.NoPcr = codes "NoPcr"
 name_of_kind kinds.ProgramLimit = codes "ProgramLimit"
+
+-- the name of what an audit finds
+abbrev pub name_of_finding : FaultName → List ℕ
+name_of_finding findings.Pcr = codes "pcr"
+name_of_finding findings.Overflow = codes "overflow"
+name_of_finding findings.Old = codes "old"
+name_of_finding findings.Late = codes "late"
+name_of_finding findings.Full = codes "full"
 
 -- the name of what is wrong with a certificate
 abbrev pub name_of_why : Why → List ℕ

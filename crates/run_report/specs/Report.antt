@@ -1,4 +1,4 @@
--- What is reported of a run, of a refused program and of a refused certificate.
+-- What is reported of a run, of a refused program, of an audit and of a refused certificate.
 use Rattle.std.specs.Prelude.{◌==◌, ℕ, List, [], ◌∷◌, length, map, take, drop}
 use Rattle.arrayvec.specs.ArrayString.{ArrayString}
 use Rattle.bound_certificate.specs.declared.cert.Cert.{Cert}
@@ -9,7 +9,8 @@ use Rattle.job_report.specs.declared.report.Report.{Report}
 use Rattle.job_report.specs.declared.report.Report.TheVariants as reports
 use Rattle.job_programs.specs.declared.source_fault.SourceFault.{SourceFault}
 use Rattle.program_reader.specs.declared.program.Program.{Program}
-use Rattle.run_report.specs.Names.{name_of_kind, name_of_why}
+use Rattle.stream_audit.specs.declared.finding.Finding.{Finding}
+use Rattle.run_report.specs.Names.{name_of_finding, name_of_kind, name_of_why}
 
 -- one program: the bytes of each audio stream's PES packets, the version that is sent of each unit, what isn't carried, and its number in
 -- the output
@@ -43,6 +44,10 @@ report_name bytes = record { bytes = bytes; spare = [] }
 -- a refused program: which of the job's, why, and at which byte
 abbrev pub source_report : SourceFault → Report
 source_report fault = reports.Source fault.at (report_name (name_of_kind fault.kind)) fault.program
+
+-- the first finding of an audit: where it is, what, and on which PID
+abbrev pub finding_report : Finding → Report
+finding_report finding = reports.AuditFault finding.at (report_name (name_of_finding finding.fault)) finding.pid
 
 -- a certificate that is wrong: what is, and in which node
 abbrev pub cert_fault_report : CertFault → Report

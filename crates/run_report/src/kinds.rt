@@ -49,6 +49,7 @@ pub fn kind_name(kind: SourceKind) -> &'static str
         SourceKind::NotLayer2 => "NotLayer2",
         SourceKind::AudioSync => "AudioSync",
         SourceKind::NoAudioTime => "NoAudioTime",
+        SourceKind::NoPcr => "NoPcr",
         SourceKind::ProgramLimit => "ProgramLimit",
     }
 }

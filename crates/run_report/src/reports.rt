@@ -3,6 +3,7 @@ ghost use Rattle.job_report.specs.Report.{report_line};
 ghost use Rattle.version_table.specs.declared.limits.TheConstants.{NODES_MOST};
 ghost use Rattle.run_report.specs.Report as spec;
 
+use crate::findings::finding_name;
 use crate::kinds::kind_name;
 use crate::programs::program_reports;
 use crate::whys::why_name;
@@ -14,6 +15,7 @@ use job_report::{ProgramJob, Report};
 use list_types::OutOfMemory;
 use program_reader::Program;
 use std::alloc::Global;
+use stream_audit::Finding;
 
 /// What is reported of a run. Fails only for want of memory.
 pub fn run_report(
@@ -45,6 +47,17 @@ pub fn source_report(fault: SourceFault) -> Report
         at: fault.at,
         kind: short_text(kind_name(fault.kind)),
         program: fault.program,
+    }
+}
+
+/// What is reported of the first finding of an audit: its line is that of the definition.
+pub fn finding_report(finding: Finding) -> Report
+    ensures { report_line result ≡ report_line (spec.finding_report finding) }
+{
+    Report::AuditFault {
+        at: finding.at,
+        fault: short_text(finding_name(finding.fault)),
+        pid: finding.pid,
     }
 }
 

@@ -44,16 +44,18 @@ pub(crate) fn carrier_of<R: Files + AllocGlobal>(
     let mut shelf = FileShelf::new(rt);
     let mut source = Reading::new(&mut shelf, file);
     let mut packets = packet_buffer(rt.alloc())?;
-    let mut walk = CarrierWalk::new(rt.alloc(), stream);
+    let mut walk = StreamWalk::new(rt.alloc(), stream);
+    let mut passed = 0u64;
     for n in 0..u64::MAX {
         packets.fill(&mut source).ok()?;
-        let carrier = walk.take(
-            n.saturating_mul(PACKET_BYTES as u64),
-            packets.first()?,
-            place,
-        );
-        if carrier.is_some() {
-            return carrier;
+        let at = n.saturating_mul(PACKET_BYTES as u64);
+        let data = walk.take(at, packets.first()?);
+        passed = passed.saturating_add(data.len() as u64);
+        if passed > place {
+            return Some(Carrier {
+                pes: walk.begun.saturating_sub(1),
+                at,
+            });
         }
         packets.pass();
     }
@@ -67,51 +69,41 @@ pub(crate) struct StreamPid {
     pub(crate) is_video: bool,
 }
 
-/// A walk over the packets of a file, up to the one that carries a byte of a stream.
+/// A walk over the packets of a file for the bytes of one stream.
 #[derive(Drop)]
-struct CarrierWalk {
+pub(crate) struct StreamWalk {
     pid: u16,
     packets: PidReader,
     pes: PesWalk,
     /// How many PES packets of the stream have begun.
     begun: u64,
-    /// How many of its bytes have passed.
-    passed: u64,
 }
 
-impl CarrierWalk {
+impl StreamWalk {
     /// Before the first packet.
-    fn new(alloc: Global, stream: StreamPid) -> CarrierWalk {
-        CarrierWalk {
+    pub(crate) fn new(alloc: Global, stream: StreamPid) -> StreamWalk {
+        StreamWalk {
             pid: stream.pid,
             packets: PidReader::new(),
             pes: PesWalk::new(alloc, stream.is_video),
             begun: 0,
-            passed: 0,
         }
     }
 
-    /// Takes the next packet, and answers where it carries the byte at a place.
-    fn take(&mut self, at: u64, bytes: &[u8; PACKET_BYTES], place: u64) -> Option<Carrier> {
+    /// Takes the packet at a place of the file, and answers the bytes of the stream in it, behind headers of PES packets.
+    pub(crate) fn take<'a>(&'a mut self, at: u64, bytes: &'a [u8; PACKET_BYTES]) -> &'a [u8] {
         if pid_of(bytes) != Ok(self.pid) {
-            return None;
+            return &[];
         }
         let Ok(Some(packet)) = self.packets.take(bytes) else {
-            return None;
+            return &[];
         };
         if packet.start {
             self.begun = self.begun.saturating_add(1);
         }
-        let Ok(data) = self.pes.add(at, packet.start, packet.payload) else {
-            return None;
-        };
-        self.passed = self.passed.saturating_add(data.len() as u64);
-        if self.passed <= place {
-            return None;
+        match self.pes.add(at, packet.start, packet.payload) {
+            Ok(data) => data,
+            Err(_) => &[],
         }
-        Some(Carrier {
-            pes: self.begun.saturating_sub(1),
-            at,
-        })
     }
 }

@@ -45,6 +45,51 @@ pub(crate) fn ticks_before<R: Files>(rt: &R, name: &str, at: u64) -> Option<u64>
     None
 }
 
+/// How far a clock stands behind the first one of its PID.
+#[derive(Clone, Copy)]
+pub(crate) struct ClockSpan {
+    pub(crate) packets: u64,
+    pub(crate) ticks: u64,
+}
+
+/// How many packets and ticks the clock in the packet at a byte stands behind the first one of its PID; none where the file doesn't tell.
+pub(crate) fn span_to<R: Files>(rt: &R, name: &str, pid: u64, at: u64) -> Option<ClockSpan> {
+    let mut shelf = FileShelf::new(rt);
+    let mut room = [0u8; PIECE_BYTES];
+    let Ok(count) = shelf.read(name, at, &mut room[..PACKET_BYTES]) else {
+        return None;
+    };
+    let last = clock_of(&room[..count])?;
+    for piece in 0..PIECES_MOST {
+        let from = piece.saturating_mul(PIECE_BYTES as u64);
+        let Ok(count) = shelf.read(name, from, &mut room) else {
+            return None;
+        };
+        if let Some((packet, first)) = first_on(&room[..count], pid) {
+            let place = from / PACKET_BYTES as u64 + packet;
+            return Some(ClockSpan {
+                packets: (at / PACKET_BYTES as u64).saturating_sub(place),
+                ticks: last.ticks.wrapping_add(ROUND).wrapping_sub(first.ticks) % ROUND,
+            });
+        }
+    }
+    None
+}
+
+/// The first clock of a PID in a piece, and its packet's number there.
+fn first_on(piece: &[u8], pid: u64) -> Option<(u64, Clock)> {
+    let mut number = 0;
+    for packet in piece.chunks_exact(PACKET_BYTES) {
+        if let Some(clock) = clock_of(packet) {
+            if u64::from(clock.pid) == pid {
+                return Some((number, clock));
+            }
+        }
+        number += 1;
+    }
+    None
+}
+
 /// The first or last clock of a piece, of one PID where it is named.
 fn clocks_in(piece: &[u8], pid: Option<u16>, is_first: bool) -> Option<Clock> {
     let mut found = None;

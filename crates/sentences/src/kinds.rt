@@ -66,7 +66,7 @@ pub(crate) struct Kind {
 }
 
 /// The kinds in the order of docs/REFUSALS.md.
-static KINDS: [Kind; 41] = [
+static KINDS: [Kind; 42] = [
     Kind {
         name: "ShortFile",
         what: "the file is shorter than a packet",
@@ -306,6 +306,12 @@ static KINDS: [Kind; 41] = [
         what: "the first audio frame has no time",
         place: Place::Audio,
         help: Help::RecodeAudio,
+    },
+    Kind {
+        name: "NoPcr",
+        what: "the program has no clock reference",
+        place: Place::Nowhere,
+        help: Help::Rewrite,
     },
     Kind {
         name: "ProgramLimit",

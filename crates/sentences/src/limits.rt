@@ -10,6 +10,7 @@ use program_reader::limits::{
 };
 use std::alloc::{AllocError, Global};
 use std::rt::Files;
+use stream_audit::AUDITED_BYTES_MOST;
 use stream_constants::limits::AUDIOS_MOST;
 
 /// Which limit a program passes, and by how much; all limits where that isn't found.
@@ -79,7 +80,7 @@ fn program_limits(alloc: Global) -> Result<String, AllocError> {
     format!(in alloc;
         "it passes one of these limits: with the programs before it {FILE_BYTES_MOST} bytes of files and {UNITS_MOST} pictures; by \
          itself {AUDIOS_MOST} audio streams, {PES_PACKETS_MOST} PES packets of a stream, {UNIT_BYTES_MOST} bytes of a picture, \
-         {AUDIO_PACKETS_MOST} audio packets ({PROBED_AUDIO_PACKETS_MOST} for `probe`) and a last time of {TIME_SLOTS_MOST} slots or \
+         {AUDIO_PACKETS_MOST} audio packets ({PROBED_AUDIO_PACKETS_MOST} for `probe`), {AUDITED_BYTES_MOST} bytes of the file of `audit` and a last time of {TIME_SLOTS_MOST} slots or \
          {TIMES_LIMIT} ticks; or its pictures' distortions, times weight and drift, the table's; docs/REFUSALS.md tells how to find \
          which, docs/JOB.md how many hours fit which slot"
     )

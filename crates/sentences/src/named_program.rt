@@ -19,7 +19,7 @@ const VIDEO: u8 = 0x02;
 /// The values of `stream_type` of the audio that is carried (ISO/IEC 11172-3 and 13818-3).
 const AUDIO: [u8; 2] = [0x03, 0x04];
 
-/// A program of a file, as a job or the words of `probe` name it.
+/// A program of a file, as a job or the words of `probe` or `audit` name it.
 #[derive(Clone, Copy)]
 pub(crate) struct NamedProgram<'a> {
     pub(crate) file: &'a str,
@@ -46,6 +46,13 @@ impl<'a> NamedProgram<'a> {
             slot: u64::from(PROBE_SLOT),
             start: START_DEFAULT,
         })
+    }
+
+    /// The program that the words of `audit` name, in their slots.
+    pub(crate) fn of_audit(end: &End<'a>) -> Option<NamedProgram<'a>> {
+        let slot = end.word(3).parse::<u64>().ok()?;
+        let program = NamedProgram::of_probe(end)?;
+        Some(NamedProgram { slot, ..program })
     }
 
     /// A program of a job, counted from 0.
@@ -95,15 +102,14 @@ impl<'a> NamedProgram<'a> {
         Some(pids)
     }
 
-    /// Its video, or its audio stream where it has one alone.
-    pub(crate) fn only_stream<R: Files + AllocGlobal>(
-        &self,
-        rt: &R,
-        is_video: bool,
-    ) -> Option<StreamPid> {
-        let streams = self.streams(rt)?;
-        match streams.as_slice() {
-            [video, ..] if is_video => Some(*video),
+    /// Its video.
+    pub(crate) fn video<R: Files + AllocGlobal>(&self, rt: &R) -> Option<StreamPid> {
+        self.streams(rt)?.as_slice().first().copied()
+    }
+
+    /// Its audio stream, where it has one alone.
+    pub(crate) fn only_audio<R: Files + AllocGlobal>(&self, rt: &R) -> Option<StreamPid> {
+        match self.streams(rt)?.as_slice() {
             [_, audio] => Some(*audio),
             _ => None,
         }

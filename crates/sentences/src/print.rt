@@ -1,3 +1,4 @@
+use crate::audited::broken;
 use crate::certificates::refused_certificate;
 use crate::done::{after_run, no_room};
 use crate::fitted::{fitting, no_fit};
@@ -46,6 +47,7 @@ fn sentence<R: Files + AllocGlobal>(
         7 => Ok(Some(unwritten(rt.alloc(), end, line)?)),
         8 => Ok(Some(refused_certificate(rt.alloc(), end, line)?)),
         9 => Ok(Some(missing(rt.alloc(), end, line)?)),
+        11 => Ok(Some(broken(rt, end, line)?)),
         12 => Ok(Some(no_fit(rt, end, line)?)),
         _ => unprinted(rt, end),
     }

@@ -1,7 +1,8 @@
 //! What is said of a program that is refused.
 
 use crate::amounts::Seconds;
-use crate::carrier::carrier_of;
+use crate::audio_again::refused_audio;
+use crate::carrier::{StreamPid, carrier_of};
 use crate::clock::ticks_before;
 use crate::job_again::job_table;
 use crate::kinds::{Help, Place, kind_of};
@@ -24,9 +25,10 @@ pub(crate) fn refused_source<R: Files + AllocGlobal>(
     end: &End<'_>,
     line: &Value,
 ) -> Result<String, AllocError> {
-    if end.word(0) == "probe" {
-        let of = format!(in rt.alloc(); "program {} of {}", end.word(2), end.word(1))?;
-        return refused_in(rt, of.as_str(), NamedProgram::of_probe(end), line);
+    match end.word(0) {
+        "probe" => return refused_alone(rt, end, NamedProgram::of_probe(end), line),
+        "audit" => return refused_alone(rt, end, NamedProgram::of_audit(end), line),
+        _ => {}
     }
     match job_table(rt, end.word(1)) {
         Some(table) => {
@@ -35,6 +37,17 @@ pub(crate) fn refused_source<R: Files + AllocGlobal>(
         }
         None => refused_of_job(rt, end, None, line),
     }
+}
+
+/// That the program which the words name is refused.
+fn refused_alone<R: Files + AllocGlobal>(
+    rt: &R,
+    end: &End<'_>,
+    program: Option<NamedProgram<'_>>,
+    line: &Value,
+) -> Result<String, AllocError> {
+    let of = format!(in rt.alloc(); "program {} of {}", end.word(2), end.word(1))?;
+    refused_in(rt, of.as_str(), program, line)
 }
 
 /// Which program of a job is refused.
@@ -97,7 +110,7 @@ fn refused_in<R: Files + AllocGlobal>(
 }
 
 /// Where it is wrong: the byte, and in a transport stream also the packet and how long after the file's first clock it comes. Of a byte
-/// of its video or audio it is the packet that carries it, where there is one such stream alone.
+/// of its video or audio it is the packet that carries it, where it can be told which stream that is.
 fn place<R: Files + AllocGlobal>(
     rt: &R,
     place: Place,
@@ -107,8 +120,8 @@ fn place<R: Files + AllocGlobal>(
     let alloc = rt.alloc();
     match place {
         Place::Nowhere => Ok(String::new(alloc)),
-        Place::Video => place_in_stream(rt, "its video", program, true, at),
-        Place::Audio => place_in_stream(rt, "an audio stream", program, false, at),
+        Place::Video => place_in_video(rt, program, at),
+        Place::Audio => place_in_audio(rt, program, at),
         Place::Stream => format!(in alloc; " at byte {at} of its video or an audio stream"),
         Place::File => match named_form(program) {
             Form::Ps => format!(in alloc; " at byte {at}"),
@@ -120,20 +133,45 @@ fn place<R: Files + AllocGlobal>(
     }
 }
 
-/// Where a byte of the video or of the only audio stream stands: in which PES packet of the stream, and which packet of the file.
+/// Where a byte of the video stands.
+fn place_in_video<R: Files + AllocGlobal>(
+    rt: &R,
+    program: Option<NamedProgram<'_>>,
+    at: u64,
+) -> Result<String, AllocError> {
+    let Some(program) = program else {
+        return format!(in rt.alloc(); " at byte {at} of its video");
+    };
+    place_in_stream(rt, "its video", &program, program.video(rt), at)
+}
+
+/// Where a byte of an audio stream stands: of the one that reading again shows to be refused there, or of the only one.
+fn place_in_audio<R: Files + AllocGlobal>(
+    rt: &R,
+    program: Option<NamedProgram<'_>>,
+    at: u64,
+) -> Result<String, AllocError> {
+    let Some(program) = program else {
+        return format!(in rt.alloc(); " at byte {at} of an audio stream");
+    };
+    let Some(stream) = refused_audio(rt, &program, at) else {
+        return place_in_stream(rt, "an audio stream", &program, program.only_audio(rt), at);
+    };
+    let name = format!(in rt.alloc(); "its audio stream on PID {}", stream.pid)?;
+    place_in_stream(rt, name.as_str(), &program, Some(stream), at)
+}
+
+/// Where a byte of a stream stands: in which PES packet of the stream, and which packet of the file, where the file tells.
 fn place_in_stream<R: Files + AllocGlobal>(
     rt: &R,
     name: &str,
-    program: Option<NamedProgram<'_>>,
-    is_video: bool,
+    program: &NamedProgram<'_>,
+    stream: Option<StreamPid>,
     at: u64,
 ) -> Result<String, AllocError> {
     let alloc = rt.alloc();
     let plain = format!(in alloc; " at byte {at} of {name}")?;
-    let Some(program) = program else {
-        return Ok(plain);
-    };
-    let Some(stream) = program.only_stream(rt, is_video) else {
+    let Some(stream) = stream else {
         return Ok(plain);
     };
     let Some(carrier) = carrier_of(rt, program.file, stream, at) else {
@@ -181,7 +219,7 @@ fn help(alloc: Global, help: Help, file: &str, form: Form, at: u64) -> Result<St
         Help::Cut => cut_loss(alloc, file, at, at),
         Help::CutOut => cut_loss(alloc, file, at, at.saturating_add(PACKET_BYTES as u64)),
         Help::Number => format!(in alloc;
-            "`program` of a job and PROGRAM of `probe` are the program_number in the file: `ffprobe {file}` shows each as \"Program\""
+            "`program` of a job and PROGRAM of `probe` and `audit` are the program_number in the file: `ffprobe {file}` shows each as \"Program\""
         ),
         Help::Recode => format!(in alloc; "code it anew: `ffmpeg -i {file} {CODE}`"),
         Help::RecodeAudio => format!(in alloc;

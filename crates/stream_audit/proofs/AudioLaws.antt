@@ -1,5 +1,5 @@
 -- An audio stream as the judge takes it: its frames stand one behind the other, their removals don't fall back, and the PES packets that are taken are the first ones.
-use Rattle.std.proofs.Common.{◌≡◌, ℕ, suc, ◌+◌, ◌<◌, ◌≤◌, Bool, true, false, cond, List, [], ◌∷◌, length, map, take, get_or, All, ℤ, pos, negsuc, ◌+ℤ◌, ◌≤ℤ◌, ◌<ℤ◌, refl, sym, ap, subst, arith}
+use Rattle.std.proofs.Common.{◌≡◌, ℕ, ◌+◌, ◌<◌, ◌≤◌, Bool, true, false, cond, List, [], ◌∷◌, length, map, take, get_or, All, ℤ, pos, negsuc, ◌+ℤ◌, ◌≤ℤ◌, ◌<ℤ◌, refl, sym, ap, subst, arith}
 use Rattle.std.specs.List.Sorted.{IsNonDecreasing}
 use Rattle.std.proofs.lemmas.Int.{ints}
 use Rattle.std.proofs.lemmas.List.{get_or-map, length-map}
@@ -13,9 +13,9 @@ use Rattle.pes_units.specs.PesPackets.{is_dropped}
 use Rattle.tstd_model.specs.declared.decoder_input.Removal.{Removal}
 use Rattle.ts_demux.specs.declared.demuxed.PesUnit.{PesUnit}
 use Rattle.stream_audit.specs.declared.frame_removals.FrameClock.{FrameClock}
-use Rattle.stream_audit.specs.declared.taken_pes.PlacedPes.{PlacedPes}
+use Rattle.elementary_streams.specs.declared.pes_packets.PlacedPacket.{PlacedPacket}
 use Rattle.stream_audit.specs.Clock.{shift}
-use Rattle.stream_audit.specs.PesBytes.{payload_of, placed_from, taken}
+use Rattle.elementary_streams.specs.Packets.{pes_payload_of, placed_from, taken}
 use Rattle.stream_audit.specs.Removals.{not_before_zero, removed_at}
 use Rattle.stream_audit.specs.Private.FrameRemovals.{AreChained, Climb, frame_removal}
 
@@ -65,13 +65,9 @@ spans_within from (cut ∷ cuts) end (frame ∷ next ∷ frames) are =
 
 pub places_climb : (from low : ℕ) (packets : List PesUnit) → low ≤ from → Climb low (placed_from from packets)
 places_climb from low [] le = tt
-places_climb from low (packet ∷ packets) le = (le, places_climb (from + length (payload_of packet)) from packets (omega arith))
+places_climb from low (packet ∷ packets) le = (le, places_climb (from + length (pes_payload_of packet)) from packets (omega arith))
 
 -- ---- those that are taken are the first ones
-
-pub placed_count : (from : ℕ) (packets : List PesUnit) → length (placed_from from packets) ≡ length packets
-placed_count from [] = refl
-placed_count from (p ∷ ps) = ap suc (placed_count (from + length (payload_of p)) ps)
 
 pub taken_front : (video : Bool) (packets : List PesUnit) → taken video packets ≡ take (length (taken video packets)) packets
 taken_front video [] = refl
@@ -98,7 +94,7 @@ moved_le one other offset lt = omega (arith, ints, lt)
 no_frame : Frame
 no_frame = record { at = 0; len = 0; time = pos 0 }
 
-pub frames_rise : (clock : FrameClock) (packets : List PlacedPes) (frames : List Frame) → AreRising (map (λ (frame : Frame). frame.time) frames) (length frames) →
+pub frames_rise : (clock : FrameClock) (packets : List PlacedPacket) (frames : List Frame) → AreRising (map (λ (frame : Frame). frame.time) frames) (length frames) →
     IsNonDecreasing (map (λ (removal : Removal). removal.due) (map (frame_removal clock packets) frames))
 frames_rise clock packets frames rising =
     let dues : List ℕ = map (λ (removal : Removal). removal.due) (map (frame_removal clock packets) frames) in

@@ -1,6 +1,5 @@
 -- What is read of a program of a file serves the judge, and what refuses one of its parts refuses the program.
-use Rattle.std.proofs.Common.{◌≡◌, ◌⊎◌, inl, inr, ℕ, ◌+◌, ◌*◌, ◌/◌, ◌<◌, ◌≤◌, ◌^◌, ◌==◌, ◌||◌, Bool, true, false, List, [], ◌∷◌, ◌++◌, length, map, drop, get_or, All, refl, sym, ap, ◌∙◌, subst, arith}
-use Rattle.std.specs.List.{sum_by}
+use Rattle.std.proofs.Common.{◌≡◌, ◌⊎◌, inl, inr, ℕ, ◌+◌, ◌/◌, ◌<◌, ◌≤◌, ◌==◌, ◌||◌, Bool, true, false, List, [], ◌∷◌, ◌++◌, length, map, drop, get_or, All, refl, sym, ap, ◌∙◌, subst, arith}
 use Rattle.std.proofs.lemmas.Bool.Decides.{nat_tests}
 use Rattle.std.proofs.lemmas.List.{append-nil, append_assoc, at_drop_all, at_drop_more}
 use Rattle.std.proofs.lemmas.List.Elements.{All-append, All-cons, All-head, All-map, All-nil, All-tail}
@@ -10,7 +9,7 @@ use Rattle.ts_demux.specs.declared.demuxed.AudioStream.{AudioStream}
 use Rattle.ts_demux.specs.declared.demuxed.Demuxed.{Demuxed}
 use Rattle.ts_demux.specs.declared.demuxed.PesUnit.{PesUnit}
 use Rattle.ts_demux.specs.declared.demux_fault.DemuxFault.{DemuxFault}
-use Rattle.ts_demux.specs.Demux.{AreStreamsSound, IsDemuxed, IsFirstStreamFault, pes_packets_on}
+use Rattle.ts_demux.specs.Demux.{AreStreamsSound, IsDemuxed, pes_packets_on}
 use Rattle.ts_demux.specs.PidPlaces.{IsPlacesFault}
 use Rattle.ts_demux.specs.Streams.{is_among}
 use Rattle.stream_audit.specs.declared.audit_stop.AuditStop.{AuditStop}
@@ -24,7 +23,7 @@ use Rattle.stream_audit.specs.Refusals.{IsAuditStopped, IsAudioSound, IsAudioSto
 use Rattle.stream_audit.specs.Streams.{AreAudioStreams, IsAudioStream, IsVideoStream, system_stream}
 use Rattle.stream_audit.specs.Private.Audit.{AddsAudios, AreStreamsStopped, AudiosSoFar, CarriesStreams, IsCarriedAudio}
 use Rattle.stream_audit.specs.Private.Audit.AreStreamsStopped.{memory, bad_video, bad_audio}
-use Rattle.stream_audit.proofs.CarriedSizes.{units_few}
+use Rattle.elementary_streams.proofs.CarriedSizes.{units_few}
 
 -- ---- packets of a carried PID
 

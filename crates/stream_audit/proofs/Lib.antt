@@ -7,14 +7,10 @@ pub mod PartSteps
 pub mod RemovalLaws
 mod Examples
 pub mod SystemLaws
-pub mod TakenLemmas
-pub mod StartLemmas
-pub mod TimeRange
-pub mod FrameTimes
-pub mod AudioLemmas
 pub mod FrameLaws
 pub mod AudioLaws
 pub mod AudioFacts
 pub mod VideoFacts
-pub mod CarriedSizes
 pub mod AuditLaws
+mod OneFinding
+pub mod OneAudit

@@ -9,7 +9,8 @@ use Rattle.tstd_model.specs.declared.decoder_input.PacketPart.{PacketPart}
 use Rattle.tstd_model.specs.declared.decoder_input.PacketPart.TheVariants.{Overhead, PesHeader, Data}
 use Rattle.ts_demux.specs.declared.demuxed.PesUnit.{PesUnit}
 use Rattle.stream_audit.specs.declared.pes_parts.KeptBytes.{KeptBytes}
-use Rattle.stream_audit.specs.PesBytes.{KeptSpan, part_at, parts_of_packets, payload_of}
+use Rattle.stream_audit.specs.PesBytes.{KeptSpan, part_at, parts_of_packets}
+use Rattle.elementary_streams.specs.Packets.{pes_payload_of}
 use Rattle.stream_audit.specs.Private.PesParts.{parts_ahead, span_of}
 
 -- ---- places that count from one byte further on
@@ -45,7 +46,7 @@ parts_shift from to at (suc count) =
 packets_shift : (from to at : ℕ) (packets : List PesUnit) → parts_of_packets (span from to) (at + 1) packets ≡ parts_of_packets (span (from - 1) (to - 1)) at packets
 packets_shift from to at [] = refl
 packets_shift from to at (packet ∷ packets) =
-    let size = length (payload_of packet) in
+    let size = length (pes_payload_of packet) in
     let header = replicate (header_length packet.bytes) PesHeader in
     let next : at + 1 + size ≡ at + size + 1 = omega arith in
     ap (λ (ps : List PacketPart). (header ++ ps) ++ parts_of_packets (span from to) (at + 1 + size) packets) (parts_shift from to at size)
@@ -70,7 +71,7 @@ module _ (packet : PesUnit) (lent : List ℕ) (header : ℕ) (same : lent ≡ pa
       let is : header ≡ header_length packet.bytes = header_by ∙ ap (λ (b : List ℕ). header_length b) same in
       omega (arith, some, is)
 
-  pub payload-size : (count : ℕ) → count ≡ length lent - header → count ≡ length (payload_of packet)
+  pub payload-size : (count : ℕ) → count ≡ length lent - header → count ≡ length (pes_payload_of packet)
   payload-size count count_is =
       count_is ∙ ap (λ (h : ℕ). length lent - h) header_by ∙ ap (λ (b : List ℕ). length b - header_length b) same ∙ sym (length-drop (header_length packet.bytes) packet.bytes)
 
@@ -101,12 +102,12 @@ module _ (kept : KeptBytes) (later : List PesUnit) where
       ∙ ap (λ (n : ℕ). part ∷ parts_ahead before n rest now later) (sym none')
 
   pub next-packet : (before header payload : ℕ) (packet : PesUnit) (rest count : ℕ) → before ≡ 0 → header ≡ 0 → payload ≡ 0 → header_length packet.bytes ≡ suc rest →
-      count ≡ length (payload_of packet) →
+      count ≡ length (pes_payload_of packet) →
       parts_ahead before header payload kept (packet ∷ later) ≡ PesHeader ∷ parts_ahead before rest count kept later
   next-packet before header payload packet rest count none none' none'' is count_is =
-      let elementary = map (part_at (span_of kept)) (range_with_len 0 (length (payload_of packet))) in
-      let behind = parts_of_packets (span_of kept) (length (payload_of packet)) later in
-      let size : 0 + length (payload_of packet) ≡ length (payload_of packet) = omega arith in
+      let elementary = map (part_at (span_of kept)) (range_with_len 0 (length (pes_payload_of packet))) in
+      let behind = parts_of_packets (span_of kept) (length (pes_payload_of packet)) later in
+      let size : 0 + length (pes_payload_of packet) ≡ length (pes_payload_of packet) = omega arith in
       ap (λ (n : ℕ). parts_ahead n header payload kept (packet ∷ later)) none ∙ ap (λ (n : ℕ). parts_ahead 0 n payload kept (packet ∷ later)) none'
       ∙ ap (λ (n : ℕ). parts_ahead 0 0 n kept (packet ∷ later)) none''
       ∙ ap (λ (n : ℕ). (replicate (header_length packet.bytes) PesHeader ++ elementary) ++ parts_of_packets (span_of kept) n later) size

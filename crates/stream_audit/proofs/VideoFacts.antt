@@ -1,25 +1,31 @@
 -- What is taken of a video serves the judge.
-use Rattle.std.proofs.Common.{◌≡◌, ℕ, ◌+◌, ◌≤◌, true, List, ◌++◌, length, take, replicate, Option, Some, sym, ap, ◌∙◌, arith}
+use Rattle.std.proofs.Common.{◌≡◌, ◌⊎◌, inl, inr, ℕ, ◌+◌, ◌≤◌, true, List, ◌++◌, length, take, replicate, Option, Some, sym, ap, subst, ◌∙◌, arith}
 use Rattle.es_units.specs.Units.{first_sequence}
 use Rattle.tstd_model.specs.declared.decoder_input.Arrival.{Arrival}
 use Rattle.tstd_model.specs.declared.decoder_input.BufferKind.TheVariants.{Video}
 use Rattle.tstd_model.specs.declared.decoder_input.PacketPart.TheVariants.{Overhead}
 use Rattle.ts_demux.specs.declared.demuxed.PesUnit.{PesUnit}
 use Rattle.ts_demux.specs.declared.pid_places.Place.{Place}
+use Rattle.elementary_streams.specs.declared.stream_fault.StreamFault.{StreamFault}
+use Rattle.elementary_streams.specs.declared.stream_fault.StreamFault.TheVariants as stream_faults
+use Rattle.stream_audit.specs.declared.audit_stop.AuditStop.{AuditStop}
+use Rattle.stream_audit.specs.declared.audit_stop.AuditStop.TheVariants.{OutOfMemory}
 use Rattle.stream_audit.specs.declared.audited_stream.AuditedStream.{AuditedStream}
 use Rattle.stream_audit.specs.declared.kept_units.KeptUnits.{KeptUnits}
-use Rattle.stream_audit.specs.declared.taken_pes.PlacedPes.{PlacedPes}
-use Rattle.stream_audit.specs.declared.taken_pes.TakenPes.{TakenPes}
-use Rattle.stream_audit.specs.PesBytes.{arrivals_of, bytes_before, elementary_bytes, parts_of_packets, taken}
+use Rattle.elementary_streams.specs.declared.pes_packets.PlacedPacket.{PlacedPacket}
+use Rattle.elementary_streams.specs.declared.pes_packets.TakenPackets.{TakenPackets}
+use Rattle.stream_audit.specs.PesBytes.{arrivals_of, bytes_before, parts_of_packets}
+use Rattle.elementary_streams.specs.Packets.{IsPacketFault, joined, taken}
+use Rattle.stream_audit.specs.Refusals.{IsVideoStopped, of_stream}
 use Rattle.stream_audit.specs.Removals.{unit_bytes, unit_removals}
 use Rattle.stream_audit.specs.Streams.{IsVideoOf}
-use Rattle.stream_audit.specs.Private.TakenPes.{AreTaken}
-use Rattle.stream_audit.proofs.AudioLaws.{placed_count, taken_front}
-use Rattle.stream_audit.proofs.AudioLemmas.{taken_count}
+use Rattle.elementary_streams.specs.Taken.{AreTaken}
+use Rattle.elementary_streams.proofs.StreamLemmas.{placed_count, taken_count}
+use Rattle.stream_audit.proofs.AudioLaws.{taken_front}
 
-module _ (packets : List PesUnit) (held : TakenPes) (are : AreTaken true packets held) (count : ℕ) (count_is : count ≡ length held.packets.items) where
+module _ (packets : List PesUnit) (held : TakenPackets) (are : AreTaken true packets held) (count : ℕ) (count_is : count ≡ length held.packets.items) where
   counted : count ≡ length (taken true packets)
-  counted = count_is ∙ ap (λ (ps : List PlacedPes). length ps) are.holds.placed ∙ placed_count 0 (taken true packets)
+  counted = count_is ∙ ap (λ (ps : List PlacedPacket). length ps) are.holds.placed ∙ placed_count 0 (taken true packets)
 
   pub video_few : count ≤ length packets
   video_few = let few = taken_count true packets in omega (arith, few, counted)
@@ -27,12 +33,19 @@ module _ (packets : List PesUnit) (held : TakenPes) (are : AreTaken true packets
   pub video_front : (front : List PesUnit) → front ≡ take count packets → front ≡ taken true packets
   video_front front is = is ∙ ap (λ (n : ℕ). take n packets) counted ∙ sym (taken_front true packets)
 
-pub sequence_is : (packets : List PesUnit) (held : TakenPes) (payload : List ℕ) (found : Option ℕ) → AreTaken true packets held → payload ≡ held.payload.items → found ≡ first_sequence payload →
-    first_sequence (elementary_bytes (taken true packets)) ≡ found
+pub sequence_is : (packets : List PesUnit) (held : TakenPackets) (payload : List ℕ) (found : Option ℕ) → AreTaken true packets held → payload ≡ held.payload.items → found ≡ first_sequence payload →
+    first_sequence (joined (taken true packets)) ≡ found
 sequence_is packets held payload found are payload_is found_is = ap first_sequence (sym (payload_is ∙ are.holds.payload)) ∙ sym found_is
 
+-- what refuses its PES packets
+pub video_stopped : (pid : ℕ) (packets : List PesUnit) (found : StreamFault) (stop : AuditStop) → (found ≡ stream_faults.OutOfMemory) ⊎ IsPacketFault true packets found
+    → stop ≡ of_stream pid found → (stop ≡ OutOfMemory) ⊎ IsVideoStopped packets stop
+video_stopped pid packets found stop (inl memory) said = inl (said ∙ ap (of_stream pid) memory)
+video_stopped pid packets found stop (inr is) said =
+    inr (IsVideoStopped.bad_packet is.packet.at is.found (subst (IsPacketFault true packets) is.fault_is is) (said ∙ ap (of_stream pid) is.fault_is))
+
 pub is_video : (places : List Place) (zero pid before from bytes : ℕ) (kept : KeptUnits) (packets front : List PesUnit) (stream : AuditedStream) →
-    first_sequence (elementary_bytes (taken true packets)) ≡ Some from → before ≡ bytes_before places → bytes ≡ unit_bytes kept → front ≡ taken true packets →
+    first_sequence (joined (taken true packets)) ≡ Some from → before ≡ bytes_before places → bytes ≡ unit_bytes kept → front ≡ taken true packets →
     stream ≡ record {
       pid = pid;
       kind = Video kept.vbv;

@@ -1,5 +1,5 @@
 -- The clock of a file by its program clock references, and those that another clock would have (ISO/IEC 13818-1, 2.4.2.2 and 2.4.3.5).
-use Rattle.std.specs.Prelude.{◌≡◌, ℕ, ◌+◌, ◌-◌, ◌*◌, ◌/◌, ◌%◌, min, nat_lt, Bool, List, [], ◌∷◌, Option, Some, if◌then◌else◌, ℤ, pos, ◌-ℤ◌, slice_get, option_and_then}
+use Rattle.std.specs.Prelude.{◌≡◌, ◌≢◌, ℕ, ◌+◌, ◌-◌, ◌*◌, ◌/◌, ◌%◌, min, nat_lt, Bool, List, [], ◌∷◌, Option, Some, if◌then◌else◌, ℤ, pos, ◌-ℤ◌, slice_get, option_and_then}
 use Rattle.std.specs.List.{filter_map, find}
 use Rattle.std.specs.Option.{option_map}
 use Rattle.stream_constants.specs.declared.packets.TheConstants.{PACKET_BYTES}
@@ -10,6 +10,7 @@ use Rattle.ts_demux.specs.Demux.{AreStreamsSound}
 use Rattle.ts_demux.specs.PidPlaces.{places_on}
 use Rattle.stream_audit.specs.declared.clock.FileClock.{FileClock}
 use Rattle.stream_audit.specs.declared.file_clock.FoundClock.{FoundClock}
+use Rattle.stream_audit.specs.declared.file_clock.TheConstants.{NULL_PID}
 use Rattle.stream_audit.specs.declared.clock.TheConstants.{PCR_TOLERANCE_TICKS}
 
 -- ---- times on a clock that goes round, in ticks modulo 300 times 2^33
@@ -59,8 +60,10 @@ pub record HasSeen (slot : ℕ) (places : List Place) (clock : FileClock) : Type
   pub zero_is : clock.zero ≡ clock_of slot places
   pub off_is : clock.off ≡ off_of slot places
 
--- The clock of a file by the references on a PID, none of whose packets is refused: what it shows at the file's first byte, and the first reference that is off.
+-- The clock of a file by the references on a PID, which isn't that of null packets, and none of whose packets is refused: what it shows at the file's first
+-- byte, and the first reference that is off.
 pub record IsClockOf (file : List ℕ) (slot pid : ℕ) (clock : FoundClock) : Type 0 where
+  pub known : pid ≢ NULL_PID
   pub sound : AreStreamsSound file (pid ∷ [])
   pub zero_is : clock_of slot (places_on file pid) ≡ Some clock.zero
   pub off_is : clock.off ≡ first_off slot clock.zero (places_on file pid)

@@ -1,46 +1,17 @@
 -- What each byte of payload that a PID carries is to the decoder of its stream: of a PES header, of the elementary stream, or none of these, so that it counts in
 -- TB alone (ISO/IEC 13818-1, 2.4.2.3 and 2.4.3.6; which PES packets and bytes are kept is this project's).
 use Rattle.std.specs.Prelude.{ℕ, ◌+◌, nat_lt, nat_le, Bool, true, false, ◌&&◌, List, [], ◌∷◌, ◌++◌, length, map, take, drop, replicate, count_by, if◌then◌else◌}
-use Rattle.std.specs.List.{flat_map, range_with_len}
-use Rattle.pes_units.specs.PesHeader.{header_length, pes_fields_of}
-use Rattle.pes_units.specs.PesPackets.{is_dropped}
-use Rattle.pes_units.specs.Times.{decoding_time}
+use Rattle.std.specs.List.{range_with_len}
+use Rattle.pes_units.specs.PesHeader.{header_length}
 use Rattle.tstd_model.specs.declared.decoder_input.Arrival.{Arrival}
 use Rattle.tstd_model.specs.declared.decoder_input.PacketPart.{PacketPart}
 use Rattle.tstd_model.specs.declared.decoder_input.PacketPart.TheVariants.{Overhead, PesHeader, Data}
 use Rattle.tstd_model.specs.PacketBytes.{is_payload}
 use Rattle.ts_demux.specs.declared.demuxed.PesUnit.{PesUnit}
 use Rattle.ts_demux.specs.declared.pid_places.Place.{Place}
-use Rattle.stream_audit.specs.declared.taken_pes.PlacedPes.{PlacedPes}
+use Rattle.elementary_streams.specs.Packets.{pes_payload_of}
 
--- ---- PES packets
-
--- those of a stream that are taken: all but a last one that the file's end cuts
-abbrev pub taken : (video : Bool) → List PesUnit → List PesUnit
-taken video [] = []
-taken video (packet ∷ []) = if is_dropped video packet.bytes then [] else packet ∷ []
-taken video (packet ∷ next ∷ more) = packet ∷ taken video (next ∷ more)
-
--- the bytes behind the header
-abbrev pub payload_of : PesUnit → List ℕ
-payload_of packet = drop (header_length packet.bytes) packet.bytes
-
--- these of PES packets one behind the other: the elementary stream
-abbrev pub elementary_bytes : List PesUnit → List ℕ
-elementary_bytes packets = flat_map payload_of packets
-
--- ---- where their payloads stand
-
--- a PES packet whose payload begins at a place of the elementary stream
-abbrev pub placed_at : (at : ℕ) → PesUnit → PlacedPes
-placed_at at packet = record { at = at; header = header_length packet.bytes; time = decoding_time (pes_fields_of packet.bytes).times }
-
--- PES packets, the payload of the first of which begins at a place
-abbrev pub placed_from : (at : ℕ) → List PesUnit → List PlacedPes
-placed_from at [] = []
-placed_from at (packet ∷ packets) = placed_at at packet ∷ placed_from (at + length (payload_of packet)) packets
-
--- ---- what their bytes are
+-- ---- what the bytes of PES packets are
 
 -- which bytes of an elementary stream are kept: those from one place up to another, which isn't one of them
 pub record KeptSpan : Type 0 where
@@ -53,12 +24,12 @@ part_at span place = if nat_le span.from place && nat_lt place span.to then Data
 
 -- the bytes of a PES packet whose payload begins at a place of the elementary stream
 abbrev pub parts_of_packet : KeptSpan → (at : ℕ) → PesUnit → List PacketPart
-parts_of_packet span at packet = replicate (header_length packet.bytes) PesHeader ++ map (part_at span) (range_with_len at (length (payload_of packet)))
+parts_of_packet span at packet = replicate (header_length packet.bytes) PesHeader ++ map (part_at span) (range_with_len at (length (pes_payload_of packet)))
 
 -- the bytes of PES packets, the payload of the first of which begins at a place
 abbrev pub parts_of_packets : KeptSpan → (at : ℕ) → List PesUnit → List PacketPart
 parts_of_packets span at [] = []
-parts_of_packets span at (packet ∷ packets) = parts_of_packet span at packet ++ parts_of_packets span (at + length (payload_of packet)) packets
+parts_of_packets span at (packet ∷ packets) = parts_of_packet span at packet ++ parts_of_packets span (at + length (pes_payload_of packet)) packets
 
 -- how many bytes packets carry before the first one in which a PES packet begins
 abbrev pub bytes_before : List Place → ℕ

@@ -1,14 +1,8 @@
 -- Why a program of a file isn't audited: the first of these in the order of reading (the order is this project's).
-use Rattle.std.specs.Prelude.{◌≡◌, ◌≢◌, ◌⊎◌, ◌<◌, ◌≤◌, ℕ, Bool, List, [], ◌∷◌, ◌++◌, All, Option, Some, None, true, false, length, pos}
-use Rattle.audio_frames.specs.declared.audio_fault.AudioFault.{AudioFault}
-use Rattle.audio_frames.specs.declared.audio_fault.AudioFault.TheVariants.{NotLayer2, AudioSync, NoAudioTime, TimeOrder}
-use Rattle.audio_frames.specs.declared.audio_fault.AudioFault.TheVariants as audio_faults
+use Rattle.std.specs.Prelude.{◌≡◌, ◌≢◌, ◌⊎◌, ◌<◌, ◌≤◌, ℕ, List, [], ◌∷◌, ◌++◌, All, Some, None, true, length, pos}
 use Rattle.audio_frames.specs.declared.frame.Frame.{Frame}
-use Rattle.audio_frames.specs.declared.pes_start.PesStart.{PesStart}
-use Rattle.audio_frames.specs.Times.{IsAudioRefused}
 use Rattle.es_units.specs.Units.{first_sequence}
 use Rattle.pes_units.specs.declared.pes_fault.PesFault.{PesFault}
-use Rattle.pes_units.specs.PesPackets.{last_refusal, packet_refusal}
 use Rattle.ts_demux.specs.declared.demuxed.AudioStream.{AudioStream}
 use Rattle.ts_demux.specs.declared.demuxed.Demuxed.{Demuxed}
 use Rattle.ts_demux.specs.declared.demuxed.PesUnit.{PesUnit}
@@ -17,8 +11,11 @@ use Rattle.ts_demux.specs.declared.demux_fault.DemuxFault.TheVariants as demux_f
 use Rattle.ts_demux.specs.Demux.{AreStreamsSound, IsDemuxRefused, IsDemuxed}
 use Rattle.ts_demux.specs.PidPlaces.{IsPlacesFault, places_on}
 use Rattle.ts_demux.specs.Tables.{IsMapPid, pat_pid}
-use Rattle.stream_audit.specs.PesBytes.{elementary_bytes, placed_from, taken}
-use Rattle.stream_audit.specs.Removals.{AreInTime, BeginAt, HasFrames, first_time}
+use Rattle.elementary_streams.specs.declared.stream_fault.StreamFault.{StreamFault}
+use Rattle.elementary_streams.specs.declared.stream_fault.StreamFault.TheVariants as stream_faults
+use Rattle.elementary_streams.specs.Packets.{AreSound, IsPacketFault, joined, taken}
+use Rattle.stream_audit.specs.Removals.{AreInTime, first_time}
+use Rattle.elementary_streams.specs.Audio.{HasFrames, IsStreamRefused}
 use Rattle.stream_audit.specs.declared.audit_stop.AuditStop.{AuditStop}
 use Rattle.stream_audit.specs.declared.audited_program.TheConstants.{AUDITED_BYTES_MOST}
 use Rattle.stream_audit.specs.declared.file_clock.FoundClock.{FoundClock}
@@ -48,28 +45,13 @@ pub data IsClockStopped (file : List ℕ) (slot pid : ℕ) (stop : AuditStop) : 
   bad_packet : (fault : DemuxFault) → pid ≢ NULL_PID → IsPlacesFault file pid fault → stop ≡ of_demux fault → IsClockStopped file slot pid stop
   no_reference : pid ≢ NULL_PID → AreStreamsSound file (pid ∷ []) → clock_of slot (places_on file pid) ≡ None → stop ≡ NoPcr → IsClockStopped file slot pid stop
 
--- ---- PES packets
+-- ---- elementary streams
 
--- the first fault of a PES packet: of one that others follow, or of a last one, which the file's end may cut
-abbrev pub fault_before : (video : Bool) → List PesUnit → PesUnit → Option PesFault
-fault_before video [] packet = last_refusal video packet.bytes
-fault_before video (_ ∷ _) packet = packet_refusal video packet.bytes
-
--- none of a stream has a fault
-abbrev pub AreSound : (video : Bool) → List PesUnit → Type 0
-AreSound video [] = Unit {0}
-AreSound video (packet ∷ more) = (fault_before video more packet ≡ None) × AreSound video more
-
--- The first one of a stream that has a fault; those before it have none.
-pub record IsPesRefused (video : Bool) (packets : List PesUnit) (stop : AuditStop) : Type 0 where
-  pub before : List PesUnit
-  pub packet : PesUnit
-  pub more : List PesUnit
-  pub split : packets ≡ before ++ packet ∷ more
-  pub sound : All (λ earlier. packet_refusal video earlier.bytes ≡ None) before
-  pub found : PesFault
-  pub refused : fault_before video more packet ≡ Some found
-  pub stop_is : stop ≡ Pes packet.at found
+-- a fault of the stream on a PID
+abbrev pub of_stream : (pid : ℕ) → StreamFault → AuditStop
+of_stream pid (stream_faults.Pes at found) = Pes at found
+of_stream pid (stream_faults.Frames found) = Audio pid found
+of_stream pid stream_faults.OutOfMemory = stops.OutOfMemory
 
 -- ---- video
 
@@ -77,42 +59,26 @@ pub record IsPesRefused (video : Bool) (packets : List PesUnit) (stop : AuditSto
 pub record IsVideoSound (packets : List PesUnit) : Type 0 where
   pub sound : AreSound true packets
   pub from : ℕ
-  pub sequence : first_sequence (elementary_bytes (taken true packets)) ≡ Some from
+  pub sequence : first_sequence (joined (taken true packets)) ≡ Some from
 
 -- What refuses a video: first its PES packets, then that it has no sequence header.
 pub data IsVideoStopped (packets : List PesUnit) (stop : AuditStop) : Type 0 where
-  bad_packet : IsPesRefused true packets stop → IsVideoStopped packets stop
-  no_sequence : AreSound true packets → first_sequence (elementary_bytes (taken true packets)) ≡ None → stop ≡ NoSequence → IsVideoStopped packets stop
+  bad_packet : (at : ℕ) (found : PesFault) → IsPacketFault true packets (stream_faults.Pes at found) → stop ≡ Pes at found → IsVideoStopped packets stop
+  no_sequence : AreSound true packets → first_sequence (joined (taken true packets)) ≡ None → stop ≡ NoSequence → IsVideoStopped packets stop
 
 -- ---- audio
-
--- a fault of the frames of the audio stream on a PID
-abbrev pub of_audio : (pid : ℕ) → AudioFault → AuditStop
-of_audio pid (NotLayer2 at) = Audio pid (NotLayer2 at)
-of_audio pid (AudioSync at) = Audio pid (AudioSync at)
-of_audio pid (NoAudioTime at) = Audio pid (NoAudioTime at)
-of_audio pid (TimeOrder at) = Audio pid (TimeOrder at)
-of_audio pid audio_faults.OutOfMemory = stops.OutOfMemory
-
--- Why an audio stream of a program whose video begins at a time, in units of 1/90,000 s, has no frames: first its PES packets, and then its frames.
-pub data IsAudioUnread (first : ℕ) (stream : AudioStream) (stop : AuditStop) : Type 0 where
-  bad_packet : IsPesRefused false stream.units stop → IsAudioUnread first stream stop
-  bad_frames : (starts : List PesStart) (found : AudioFault) → AreSound false stream.units → BeginAt (pos first) (placed_from 0 (taken false stream.units)) starts
-      → IsAudioRefused (elementary_bytes (taken false stream.units)) starts found → stop ≡ of_audio stream.pid found → IsAudioUnread first stream stop
 
 -- Nothing refuses an audio stream of a program with these units: its PES packets have no fault, those that are taken are these frames, and none is due later than
 -- 2^52 ticks.
 pub record IsAudioSound (kept : KeptUnits) (stream : AudioStream) : Type 0 where
-  pub sound : AreSound false stream.units
   pub frames : List Frame
-  pub framed : HasFrames (first_time kept) (taken false stream.units) frames
+  pub framed : HasFrames (pos (first_time kept)) stream frames
   pub in_time : AreInTime kept frames
 
--- What refuses an audio stream of a program with these units: that it has no frames, else a frame that is due later.
+-- What refuses an audio stream of a program with these units: its PES packets or its frames, else a frame that is due later.
 pub data IsAudioStopped (kept : KeptUnits) (stream : AudioStream) (stop : AuditStop) : Type 0 where
-  unread : IsAudioUnread (first_time kept) stream stop → IsAudioStopped kept stream stop
-  late : (frames : List Frame) → AreSound false stream.units → HasFrames (first_time kept) (taken false stream.units) frames → (AreInTime kept frames → ⊥)
-      → stop ≡ ProgramLimit → IsAudioStopped kept stream stop
+  unread : (found : StreamFault) → IsStreamRefused (pos (first_time kept)) stream found → stop ≡ of_stream stream.pid found → IsAudioStopped kept stream stop
+  late : (frames : List Frame) → HasFrames (pos (first_time kept)) stream frames → (AreInTime kept frames → ⊥) → stop ≡ ProgramLimit → IsAudioStopped kept stream stop
 
 -- The first one of some audio streams that is refused; those before it aren't.
 pub record IsFirstAudioStopped (kept : KeptUnits) (audios : List AudioStream) (stop : AuditStop) : Type 0 where

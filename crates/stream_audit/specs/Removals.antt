@@ -1,17 +1,14 @@
 -- When a decoder removes the units and frames of a program, by the clock of the file (ISO/IEC 13818-1, 2.4.2.3 and 2.4.3.7).
-use Rattle.std.specs.Prelude.{◌≡◌, ℕ, ◌+◌, ◌*◌, ◌/◌, ◌%◌, nat_lt, nat_le, Bool, ◌&&◌, filter, List, [], ◌∷◌, map, take, sum_by, Option, Some, None, unwrap_or, All, ◌^◌, ℤ, pos, negsuc, ◌+ℤ◌, ◌-ℤ◌, ◌≤ℤ◌}
+use Rattle.std.specs.Prelude.{ℕ, ◌+◌, ◌*◌, ◌/◌, ◌%◌, nat_lt, nat_le, Bool, ◌&&◌, filter, List, map, take, sum_by, All, ◌^◌, ℤ, pos, negsuc, ◌+ℤ◌, ◌-ℤ◌, ◌≤ℤ◌}
 use Rattle.stream_constants.specs.declared.clock.TheConstants.{TICKS_PER_TIME_UNIT}
 use Rattle.pcr_writer.specs.declared.pcr.TheConstants.{PCR_MODULUS}
 use Rattle.audio_frames.specs.declared.frame.Frame.{Frame}
-use Rattle.audio_frames.specs.declared.pes_start.PesStart.{PesStart}
-use Rattle.audio_frames.specs.Times.{AreFramesOf}
-use Rattle.pes_units.specs.TimeAxis.{IsUnwrapped}
 use Rattle.tstd_model.specs.declared.decoder_input.Removal.{Removal}
 use Rattle.ts_demux.specs.declared.demuxed.PesUnit.{PesUnit}
 use Rattle.stream_audit.specs.declared.kept_units.KeptUnits.{KeptUnits}
 use Rattle.stream_audit.specs.Clock.{shift}
-use Rattle.stream_audit.specs.declared.taken_pes.PlacedPes.{PlacedPes}
-use Rattle.stream_audit.specs.PesBytes.{elementary_bytes, placed_from}
+use Rattle.elementary_streams.specs.declared.pes_packets.PlacedPacket.{PlacedPacket}
+use Rattle.elementary_streams.specs.Packets.{placed_from}
 
 -- ---- the time of a removal
 
@@ -44,31 +41,13 @@ first_due kept = sum_by (λ unit. unit.due) (take 1 kept.units)
 abbrev pub first_time : KeptUnits → ℕ
 first_time kept = (kept.base + first_due kept) % PCR_MODULUS / TICKS_PER_TIME_UNIT
 
--- the time of a PES packet on the axis of the last time before it, if it has one
-abbrev pub IsOnAxis : ℤ → Option ℕ → Option ℤ → Type 0
-IsOnAxis before None time = time ≡ None
-IsOnAxis before (Some value) time = (placed : ℤ) × (time ≡ Some placed) × IsUnwrapped before value placed
-
--- where the payloads of PES packets begin, and their times, each on the axis of the time before it
-abbrev pub BeginAt : (before : ℤ) → List PlacedPes → List PesStart → Type 0
-BeginAt before [] [] = Unit {0}
-BeginAt before [] (_ ∷ _) = ⊥
-BeginAt before (_ ∷ _) [] = ⊥
-BeginAt before (packet ∷ packets) (start ∷ starts) = (start.at ≡ packet.at) × IsOnAxis before packet.time start.time × BeginAt (unwrap_or start.time before) packets starts
-
--- The frames of the PES packets of an audio stream of a program whose video begins at a time, in units of 1/90,000 s.
-pub record HasFrames (first : ℕ) (packets : List PesUnit) (frames : List Frame) : Type 0 where
-  pub starts : List PesStart
-  pub begin : BeginAt (pos first) (placed_from 0 packets) starts
-  pub frames_are : AreFramesOf (elementary_bytes packets) starts frames
-
 -- a PES packet's payload begins within a frame
-abbrev pub begins_in : Frame → PlacedPes → Bool
-begins_in frame packet = nat_le frame.at packet.at && nat_lt packet.at (frame.at + frame.len)
+abbrev pub begins_in : Frame → PlacedPacket → Bool
+begins_in frame packet = nat_le frame.at packet.from && nat_lt packet.from (frame.at + frame.len)
 
 -- the header bytes of those PES packets whose payloads begin within a frame
-abbrev pub header_bytes_in : Frame → List PlacedPes → ℕ
-header_bytes_in frame packets = sum_by (λ packet. packet.header) (filter (begins_in frame) packets)
+abbrev pub header_bytes_in : Frame → List PlacedPacket → ℕ
+header_bytes_in frame packets = sum_by (λ packet. packet.header.len) (filter (begins_in frame) packets)
 
 -- a frame's time as a due: that of the first unit, and the ticks from the program's first video time on
 abbrev pub frame_due : KeptUnits → Frame → ℤ

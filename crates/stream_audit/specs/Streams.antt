@@ -1,5 +1,5 @@
 -- The streams of a program in a file, as the decoder's buffers get them (ISO/IEC 13818-1, 2.4.2.3; the order of the streams is this project's).
-use Rattle.std.specs.Prelude.{◌≡◌, ℕ, ◌+◌, ◌||◌, true, false, List, [], ◌∷◌, map, filter, length, Some}
+use Rattle.std.specs.Prelude.{◌≡◌, ℕ, ◌+◌, ◌||◌, true, false, List, [], ◌∷◌, map, filter, length, Some, pos}
 use Rattle.std.specs.List.{range_with_len}
 use Rattle.ts_packets.specs.Packet.{packet_identifier}
 use Rattle.ts_packets.specs.TransportStream.{is_of_pid, piece_at, piece_count}
@@ -14,8 +14,10 @@ use Rattle.ts_demux.specs.PidPlaces.{place_at, places_on}
 use Rattle.ts_demux.specs.Tables.{pat_pid}
 use Rattle.stream_audit.specs.declared.audited_stream.AuditedStream.{AuditedStream}
 use Rattle.stream_audit.specs.declared.kept_units.KeptUnits.{KeptUnits}
-use Rattle.stream_audit.specs.PesBytes.{KeptSpan, arrivals_of, elementary_bytes, parts_carried, taken}
-use Rattle.stream_audit.specs.Removals.{HasFrames, first_time, frame_removals, unit_bytes, unit_removals}
+use Rattle.stream_audit.specs.PesBytes.{KeptSpan, arrivals_of, parts_carried}
+use Rattle.elementary_streams.specs.Packets.{joined, taken}
+use Rattle.elementary_streams.specs.Audio.{HasFrames}
+use Rattle.stream_audit.specs.Removals.{first_time, frame_removals, unit_bytes, unit_removals}
 
 -- packets that carry these PES packets, and of the elementary stream in them those bytes that are kept
 abbrev pub arrivals_by : List Place → KeptSpan → List PesUnit → List Arrival
@@ -24,7 +26,7 @@ arrivals_by places span packets = arrivals_of places (parts_carried span places 
 -- The video, whose packets on its PID are these: its PES packets that are taken, of which the units are kept from the first sequence header on.
 pub record IsVideoOf (places : List Place) (zero : ℕ) (kept : KeptUnits) (pid : ℕ) (packets : List PesUnit) (stream : AuditedStream) : Type 0 where
   pub from : ℕ
-  pub sequence : first_sequence (elementary_bytes (taken true packets)) ≡ Some from
+  pub sequence : first_sequence (joined (taken true packets)) ≡ Some from
   pub stream_is : stream ≡ record {
     pid = pid;
     kind = Video kept.vbv;
@@ -39,11 +41,11 @@ IsVideoStream file clock_zero kept pid packets stream = IsVideoOf (places_on fil
 -- An audio stream whose packets on its PID are these: its PES packets that are taken, with the whole elementary stream in them, and its frames.
 pub record IsAudioOf (places : List Place) (zero : ℕ) (kept : KeptUnits) (audio : AudioStream) (stream : AuditedStream) : Type 0 where
   pub frames : List Frame
-  pub framed : HasFrames (first_time kept) (taken false audio.units) frames
+  pub framed : HasFrames (pos (first_time kept)) audio frames
   pub stream_is : stream ≡ record {
     pid = audio.pid;
     kind = Audio;
-    arrivals = arrivals_by places (record { from = 0; to = length (elementary_bytes (taken false audio.units)) }) (taken false audio.units);
+    arrivals = arrivals_by places (record { from = 0; to = length (joined (taken false audio.units)) }) (taken false audio.units);
     removals = frame_removals zero kept (taken false audio.units) frames;
   }
 

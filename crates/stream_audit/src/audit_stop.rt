@@ -1,7 +1,8 @@
 ghost use Rattle.std.specs.Prelude.{◌≡◌};
-ghost use Rattle.stream_audit.specs.Refusals.{of_demux};
+ghost use Rattle.stream_audit.specs.Refusals.{of_demux, of_stream};
 
 use audio_frames::AudioFault;
+use elementary_streams::StreamFault;
 use list_types::OutOfMemory;
 use pes_units::PesFault;
 use std::alloc::AllocError;
@@ -63,5 +64,16 @@ pub(crate) fn demux_stop(fault: DemuxFault) -> AuditStop
     match fault {
         DemuxFault::OutOfMemory => AuditStop::OutOfMemory,
         _ => AuditStop::Demux(fault),
+    }
+}
+
+/// What stops an audit for a fault of the stream on a PID.
+pub(crate) fn stream_stop(pid: u16, fault: StreamFault) -> AuditStop
+    ensures { result ≡ of_stream pid fault }
+{
+    match fault {
+        StreamFault::Pes { at, fault } => AuditStop::Pes { at, fault },
+        StreamFault::Frames(fault) => AuditStop::Audio { pid, fault },
+        StreamFault::OutOfMemory => AuditStop::OutOfMemory,
     }
 }

@@ -1,25 +1,23 @@
 //! An audio stream of a program as the decoder's buffers get it (ISO/IEC 13818-1, 2.4.2.3).
-ghost use Rattle.std.specs.Prelude.{◌≡◌, ◌⊎◌, ◌<◌, ◌≤◌, ◌^◌, List, All, IfErr, IfOk, false, length, map, pos, ◌≤ℤ◌};
+ghost use Rattle.std.specs.Prelude.{◌≡◌, ◌⊎◌, ◌<◌, ◌≤◌, ◌^◌, All, IfErr, IfOk, length, map};
 ghost use Rattle.std.specs.List.{sum_by};
 ghost use Rattle.std.specs.List.Sorted.{IsStrictlyIncreasing};
 ghost use Rattle.stream_constants.specs.declared.packets.TheConstants.{PACKET_BYTES};
-ghost use Rattle.audio_frames.specs.declared.frame.Frame.{Frame};
 ghost use Rattle.stream_audit.specs.declared.audit_stop.AuditStop.TheVariants.{OutOfMemory};
 ghost use Rattle.stream_audit.specs.Findings.{CanBeJudged};
-ghost use Rattle.stream_audit.specs.PesBytes.{taken};
+ghost use Rattle.elementary_streams.specs.Packets.{taken};
 ghost use Rattle.stream_audit.specs.Refusals.{IsAudioSound, IsAudioStopped};
-ghost use Rattle.stream_audit.specs.Removals.{HasFrames, first_due, first_time, frame_due};
+ghost use Rattle.stream_audit.specs.Removals.{first_due};
 ghost use Rattle.stream_audit.specs.Streams.{IsAudioOf};
 
 use crate::arrivals::arrivals_in;
-use crate::audio_read::read_audio;
-use crate::audit_stop::AuditStop;
+use crate::audit_stop::{AuditStop, stream_stop};
 use crate::audited_stream::AuditedStream;
 use crate::bytes_before::{bytes_before, front};
 use crate::frame_removals::{FrameClock, first_due, frame_removals, time_shown};
 use crate::kept_units::KeptUnits;
 use crate::pes_parts::{KeptBytes, PesParts};
-use crate::pes_starts::PES_PACKETS_MOST;
+use elementary_streams::{AxisTime, PES_PACKETS_MOST, read_stream};
 use std::alloc::Global;
 use ts_demux::{AudioStream, Place};
 use tstd_model::BufferKind;
@@ -47,9 +45,10 @@ pub fn audio_stream(
     ensures refused { IfErr result (λ stop. (stop ≡ OutOfMemory) ⊎ IsAudioStopped kept.now stream.now stop) }
 {
     let first = time_shown(kept.base, first_due(kept));
-    let read = match read_audio(alloc, stream, first) {
+    let before = AxisTime::of(first);
+    let read = match read_stream(alloc, stream, &before) {
         Ok(read) => read,
-        Err(stop) => return Err(stop),
+        Err(fault) => return Err(stream_stop(stream.pid, fault)),
     };
     let clock = FrameClock::new(zero, kept);
     let placed = read.packets.as_slice();

@@ -5,13 +5,13 @@ ghost use Rattle.stream_constants.specs.declared.clock.TheConstants.{TICKS_PER_T
 ghost use Rattle.pcr_writer.specs.declared.pcr.TheConstants.{PCR_MODULUS};
 ghost use Rattle.stream_audit.specs.Removals.{first_due, first_time, removed_at};
 ghost use Rattle.stream_audit.specs.Private.FrameRemovals.{AreChained, Climb, CountsHeaders, FallsWithin, IsOffset, frame_removal};
-ghost use Rattle.stream_audit.specs.Private.PesStarts.{IsTime};
+ghost use Rattle.elementary_streams.specs.NearTimes.{IsTime};
 
 use crate::clock::{behind, ticks_from};
 use crate::kept_units::KeptUnits;
 use crate::removals::removed_at;
-use crate::taken_pes::PlacedPes;
 use audio_frames::Frame;
+use elementary_streams::PlacedPacket;
 use list_types::{ListOf, OutOfMemory};
 use pcr_writer::PCR_MODULUS;
 use std::alloc::Global;
@@ -126,21 +126,21 @@ fn removed_from(zero: u64, base: u64, due: i64) -> u64
 /// The PES packets of an audio stream whose headers haven't been counted with a frame.
 #[derive(Drop)]
 struct HeadersAhead<'a> {
-    packets: &'a [PlacedPes],
+    packets: &'a [PlacedPacket],
 }
 
 impl<'a> HeadersAhead<'a> {
     /// The header bytes of the next ones whose payloads begin before a place; they are passed.
     fn count_before(&mut self, end: u64) -> u64
-        requires { sum_by (λ packet. packet.header) self.old.packets.now < 2 ^ 32 }
+        requires { sum_by (λ packet. packet.header.len) self.old.packets.now < 2 ^ 32 }
         ensures { CountsHeaders end self.old.packets.now result self.new.packets.now }
     {
         let mut bytes = 0;
         while let Some((packet, later)) = self.packets.split_first() {
-            if packet.at >= end {
+            if packet.from >= end {
                 break;
             }
-            bytes += u64::from(packet.header);
+            bytes += u64::from(packet.header.len);
             self.packets = later;
         }
         bytes
@@ -152,12 +152,12 @@ impl<'a> HeadersAhead<'a> {
 pub fn frame_removals(
     alloc: Global,
     clock: &FrameClock,
-    packets: &[PlacedPes],
+    packets: &[PlacedPacket],
     frames: &[Frame],
 ) -> Result<ListOf<Removal>, OutOfMemory>
     requires chained { AreChained 0 frames.now }
     requires climb { Climb 0 packets.now }
-    requires headers { sum_by (λ packet. packet.header) packets.now < 2 ^ 31 }
+    requires headers { sum_by (λ packet. packet.header.len) packets.now < 2 ^ 31 }
     requires lengths { All (λ frame. frame.len < 2 ^ 31) frames.now }
     requires places { All (λ frame. frame.at < 2 ^ 62) frames.now }
     requires fall { All (λ frame. FallsWithin (frame.time +ℤ clock.now.offset)) frames.now }

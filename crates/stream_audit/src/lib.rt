@@ -6,7 +6,6 @@
 #![tactic(auto)]
 
 mod arrivals;
-mod audio_read;
 mod audit_stop;
 mod audited_audio;
 mod audited_program;
@@ -20,14 +19,13 @@ mod finding;
 mod frame_removals;
 mod judge;
 mod kept_units;
+pub mod laws;
 mod packets_of;
 mod pes_parts;
-mod pes_starts;
 mod read_program;
 mod removals;
 mod sections;
 mod streams_of;
-mod taken_pes;
 mod video_packets;
 
 pub use arrivals::arrivals_in;

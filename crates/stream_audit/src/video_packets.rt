@@ -9,13 +9,13 @@ ghost use Rattle.stream_audit.specs.Refusals.{IsVideoSound, IsVideoStopped};
 ghost use Rattle.stream_audit.specs.Removals.{unit_bytes};
 ghost use Rattle.stream_audit.specs.Streams.{IsVideoOf};
 
-use crate::audit_stop::AuditStop;
+use crate::audit_stop::{AuditStop, stream_stop};
 use crate::audited_stream::AuditedStream;
 use crate::audited_video::video_stream;
 use crate::bytes_before::{bytes_before, front};
 use crate::kept_units::KeptUnits;
 use crate::pes_parts::{KeptBytes, PesParts};
-use crate::taken_pes::take_pes;
+use elementary_streams::take_packets;
 use es_units::find_sequence;
 use std::alloc::Global;
 use ts_demux::{PesUnit, Place};
@@ -57,9 +57,9 @@ pub fn video_of(
     ensures judged { IfOk result CanBeJudged }
     ensures refused { IfErr result (λ stop. (stop ≡ OutOfMemory) ⊎ IsVideoStopped packets.now stop) }
 {
-    let taken = match take_pes(alloc, packets, true) {
+    let taken = match take_packets(alloc, packets, true) {
         Ok(taken) => taken,
-        Err(stop) => return Err(stop),
+        Err(fault) => return Err(stream_stop(pid, fault)),
     };
     let Some(from) = find_sequence(taken.payload.as_slice()) else {
         return Err(AuditStop::NoSequence);

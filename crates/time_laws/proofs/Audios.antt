@@ -9,11 +9,12 @@ use Rattle.pes_units.specs.PesPackets.{is_dropped, last_refusal, packet_refusal}
 use Rattle.version_table.specs.declared.table.AudioPacket.{AudioPacket}
 use Rattle.ts_demux.specs.declared.demuxed.AudioStream.{AudioStream}
 use Rattle.ts_demux.specs.declared.demuxed.PesUnit.{PesUnit}
-use Rattle.program_reader.specs.declared.pes_packets.PlacedPacket.{PlacedPacket}
+use Rattle.elementary_streams.specs.declared.pes_packets.PlacedPacket.{PlacedPacket}
 use Rattle.program_reader.specs.declared.program.AudioPiece.{AudioPiece}
 use Rattle.program_reader.specs.declared.program.AudioSource.{AudioSource}
-use Rattle.program_reader.specs.Audio.{AreAudioSources, ArePieces, AreStartsOf, HasFrames, HaveFrames, IsAudioSource, placed_pieces, taken_of}
-use Rattle.program_reader.specs.Packets.{AreSound, joined, pes_payload_of, placed_from, taken}
+use Rattle.program_reader.specs.Audio.{AreAudioSources, ArePieces, HaveFrames, IsAudioSource, placed_pieces}
+use Rattle.elementary_streams.specs.Audio.{AreStartsOf, HasFrames, taken_of}
+use Rattle.elementary_streams.specs.Packets.{AreSound, joined, pes_payload_of, placed_from, taken}
 use Rattle.program_reader.specs.Programs.{IsBase}
 use Rattle.program_table.specs.Table.{audio_row}
 use Rattle.parsing_laws.specs.Parsed.{bytes_of_packets}

@@ -8,7 +8,7 @@ use Rattle.audio_frames.specs.declared.frame.Frame.{Frame}
 use Rattle.ts_packets.specs.Packet.{PacketRecord}
 use Rattle.pcr_writer.specs.PcrPacket.{pcr_at}
 use Rattle.ts_demux.specs.declared.demuxed.PesUnit.{PesUnit}
-use Rattle.program_reader.specs.declared.pes_packets.PlacedPacket.{PlacedPacket}
+use Rattle.elementary_streams.specs.declared.pes_packets.PlacedPacket.{PlacedPacket}
 use Rattle.program_reader.specs.declared.timed_picture.Role.{Role}
 use Rattle.program_reader.specs.declared.timed_picture.Role.TheVariants as roles
 use Rattle.program_reader.specs.Audio.{placed_pieces}

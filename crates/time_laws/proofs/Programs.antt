@@ -21,7 +21,7 @@ use Rattle.version_table.specs.Choice.{HasVersion}
 use Rattle.slot_rule.specs.Sent.{choice_from}
 use Rattle.job_report.specs.declared.job.Form.{Form}
 use Rattle.job_report.specs.declared.job.ProgramJob.{ProgramJob}
-use Rattle.program_reader.specs.declared.pes_packets.PlacedPacket.{PlacedPacket}
+use Rattle.elementary_streams.specs.declared.pes_packets.PlacedPacket.{PlacedPacket}
 use Rattle.program_reader.specs.declared.program.AudioPiece.{AudioPiece}
 use Rattle.program_reader.specs.declared.program.AudioSource.{AudioSource}
 use Rattle.program_reader.specs.declared.program.Program.{Program}

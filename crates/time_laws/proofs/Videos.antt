@@ -25,13 +25,13 @@ use Rattle.version_table.specs.Choice.{HasVersion, version_at}
 use Rattle.layer_laws.specs.VideoPackets.{IsReadAsVideo}
 use Rattle.ts_demux.specs.declared.demuxed.PesUnit.{PesUnit}
 use Rattle.program_reader.specs.Carry.{unit_weight}
-use Rattle.program_reader.specs.declared.pes_packets.PlacedPacket.{PlacedPacket}
+use Rattle.elementary_streams.specs.declared.pes_packets.PlacedPacket.{PlacedPacket}
 use Rattle.program_reader.specs.declared.program.UnitSource.{UnitSource}
 use Rattle.program_reader.specs.declared.timed_picture.Role.{Role}
 use Rattle.program_reader.specs.declared.timed_picture.Role.TheVariants.{Frame, FirstField, SecondField}
 use Rattle.program_reader.specs.declared.timed_picture.TimedPicture.{TimedPicture}
 use Rattle.program_reader.specs.Audio.{IsDue}
-use Rattle.program_reader.specs.Packets.{pes_payload_of}
+use Rattle.elementary_streams.specs.Packets.{pes_payload_of}
 use Rattle.program_reader.specs.Programs.{AreUnitSources, IsBase}
 use Rattle.program_reader.specs.Intervals.{CodedPicture, before_frame, begins_reference, decoding_interval, interval_behind, is_b, nearest, reference_shown, share_of, shown_as, shown_meanwhile}
 use Rattle.program_reader.specs.Units.{AreInOrder, IsNext, IsTimed, TellsReference, coded_as, role_behind, state_behind, ticks_behind, unit_bytes}
@@ -45,7 +45,7 @@ use Rattle.time_laws.specs.Video.{AreDecoded, DecodedPicture, IsDecodedWhen, cod
 use Rattle.time_laws.proofs.Spelled.{SpellingLaws, SpellsAlike, chosen-alike, one-picture}
 use Rattle.time_laws.proofs.Ticks.{due-behind, due-shown, stated-shown}
 use Rattle.picture_heads.proofs.ReadHeads.{without_delay}
-use Rattle.program_reader.proofs.StreamLemmas.{passes}
+use Rattle.elementary_streams.proofs.StreamLemmas.{passes}
 
 -- ---- times
 

@@ -4,9 +4,10 @@ use Rattle.std.specs.Prelude.{◌≡◌, ℕ, ◌+◌, ◌-◌, List, [], ◌∷
 use Rattle.audio_frames.specs.declared.frame.Frame.{Frame}
 use Rattle.ts_demux.specs.declared.demuxed.AudioStream.{AudioStream}
 use Rattle.version_table.specs.declared.table.AudioPacket.{AudioPacket}
-use Rattle.program_reader.specs.declared.pes_packets.PlacedPacket.{PlacedPacket}
-use Rattle.program_reader.specs.Audio.{packet_size, payload_place, piece_size, placed_pieces, taken_of, time_of_byte}
-use Rattle.program_reader.specs.Packets.{placed_from}
+use Rattle.elementary_streams.specs.declared.pes_packets.PlacedPacket.{PlacedPacket}
+use Rattle.program_reader.specs.Audio.{packet_size, payload_place, piece_size, placed_pieces, time_of_byte}
+use Rattle.elementary_streams.specs.Audio.{taken_of}
+use Rattle.elementary_streams.specs.Packets.{placed_from}
 use Rattle.time_laws.specs.Clock.{IsFirstShown}
 
 -- So many bytes from a place of a PES packet on are those of an audio packet: its first byte is wanted when the clock first shows the time of the frame that it

@@ -12,7 +12,7 @@ use Rattle.picture_grammar.specs.Macroblock.{is_frame}
 use Rattle.picture_reader.specs.Picture.{IsPictureOf}
 use Rattle.ts_demux.specs.declared.demuxed.PesUnit.{PesUnit}
 use Rattle.program_reader.specs.declared.timed_picture.Role.{Role}
-use Rattle.program_reader.specs.Packets.{pes_payload_of}
+use Rattle.elementary_streams.specs.Packets.{pes_payload_of}
 use Rattle.program_reader.specs.Intervals.{CodedPicture, decoding_interval, nearest}
 use Rattle.program_reader.specs.Units.{role_behind}
 use Rattle.time_laws.specs.Clock.{IsFirstShown}

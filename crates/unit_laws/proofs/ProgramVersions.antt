@@ -13,7 +13,7 @@ use Rattle.picture_grammar.proofs.HeaderLaws.{exact-picture_unit}
 use Rattle.picture_laws.proofs.SpelledStates.{state-of_unit}
 use Rattle.picture_heads.specs.Heads.{IsHeadWithoutDelay}
 use Rattle.picture_reader.specs.Picture.{IsPictureOf}
-use Rattle.program_reader.specs.declared.pes_packets.PlacedPacket.{PlacedPacket}
+use Rattle.elementary_streams.specs.declared.pes_packets.PlacedPacket.{PlacedPacket}
 use Rattle.program_reader.specs.declared.program.Program.{Program}
 use Rattle.program_reader.specs.declared.program.UnitSource.{UnitSource}
 use Rattle.program_reader.specs.declared.timed_picture.TimedPicture.{TimedPicture}

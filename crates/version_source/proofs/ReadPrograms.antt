@@ -52,14 +52,15 @@ use Rattle.pes_units.specs.VideoHeader.{AreInRange, IsBesidePts}
 use Rattle.ts_demux.specs.declared.demuxed.AudioStream.{AudioStream}
 use Rattle.ts_demux.specs.declared.demuxed.Demuxed.{Demuxed}
 use Rattle.ts_demux.specs.declared.demuxed.PesUnit.{PesUnit}
-use Rattle.program_reader.specs.declared.pes_packets.PlacedPacket.{PlacedPacket}
+use Rattle.elementary_streams.specs.declared.pes_packets.PlacedPacket.{PlacedPacket}
 use Rattle.program_reader.specs.declared.program.AudioPiece.{AudioPiece}
 use Rattle.program_reader.specs.declared.program.AudioSource.{AudioSource}
 use Rattle.program_reader.specs.declared.program.Program.{Program}
 use Rattle.program_reader.specs.declared.program.UnitSource.{UnitSource}
 use Rattle.program_reader.specs.declared.timed_picture.TimedPicture.{TimedPicture}
-use Rattle.program_reader.specs.Audio.{AreAudioSources, ArePieces, HaveFrames, IsAudioSource, IsPiece, packet_size, piece_places, piece_size, placed_pieces, taken_of}
-use Rattle.program_reader.specs.Packets.{pes_payload_of, placed_from, taken}
+use Rattle.program_reader.specs.Audio.{AreAudioSources, ArePieces, HaveFrames, IsAudioSource, IsPiece, packet_size, piece_places, piece_size, placed_pieces}
+use Rattle.elementary_streams.specs.Audio.{taken_of}
+use Rattle.elementary_streams.specs.Packets.{pes_payload_of, placed_from, taken}
 use Rattle.es_units.specs.Pictures.{first_picture}
 use Rattle.program_reader.specs.PictureTimes.{is_first_picture_in, no_times, times_at, times_of_unit}
 use Rattle.program_reader.specs.Programs.{AreUnitSources, IsProgram, video_bytes, video_packets}
@@ -68,8 +69,8 @@ use Rattle.program_reader.specs.Intervals.{nearest}
 use Rattle.program_reader.specs.Units.{AreInOrder, AreKept, all, but_last, state_behind}
 use Rattle.program_reader.specs.Private.KeptUnits.{Fits}
 use Rattle.program_reader.proofs.CutLemmas.{cuts_fit}
-use Rattle.program_reader.proofs.StreamLemmas.{HasPayload, taken_payloads}
-use Rattle.program_reader.proofs.TakenLemmas.{placed_at}
+use Rattle.elementary_streams.proofs.StreamLemmas.{HasPayload, taken_payloads}
+use Rattle.elementary_streams.proofs.TakenLemmas.{placed_at}
 use Rattle.version_source.specs.Sendable.{IsPieceOf, IsSendable, IsUnitOf, SpellInOrder}
 
 -- ---- times

@@ -1,15 +1,11 @@
 -- Times of a program: how far from 0 they are, and which is the earliest one.
-use Rattle.std.specs.Prelude.{◌≡◌, ◌⊎◌, ℕ, ◌*◌, ◌^◌, List, [], ◌∷◌, All, Contains, ℤ, pos, neg_ℤ, ◌≤ℤ◌}
+use Rattle.std.specs.Prelude.{◌≡◌, ◌⊎◌, ℕ, List, [], ◌∷◌, All, Contains, ℤ, ◌≤ℤ◌}
+use Rattle.elementary_streams.specs.NearTimes.{IsTime}
 use Rattle.program_reader.specs.declared.kept_units.KeptUnit.{KeptUnit}
 use Rattle.program_reader.specs.declared.program.UnitSource.{UnitSource}
 use Rattle.program_reader.specs.Audio.{IsDue}
 
--- a time in ticks that is far from the ends of 64 bits
-pub record IsTime (time : ℤ) : Type 0 where
-  pub least : neg_ℤ (pos (9 * 10 ^ 18)) ≤ℤ time
-  pub most : time ≤ℤ pos (9 * 10 ^ 18)
-
--- such a time, and no earlier than another one
+-- a time that is far from the ends of 64 bits, and no earlier than another one
 pub record IsTimeFrom (earliest time : ℤ) : Type 0 where
   pub is_time : IsTime time
   pub order : earliest ≤ℤ time

@@ -4,14 +4,13 @@ use Rattle.ts_demux.specs.declared.demuxed.PesUnit.{PesUnit}
 use Rattle.picture_grammar.specs.Picture.{IsState}
 use Rattle.program_reader.specs.declared.limits.TheConstants.{FILE_BYTES_MOST, PES_PACKETS_MOST}
 use Rattle.program_reader.specs.declared.kept_units.KeptUnits.{KeptUnits}
-use Rattle.program_reader.specs.declared.pes_packets.PlacedPacket.{PlacedPacket}
-use Rattle.program_reader.specs.declared.pes_packets.TakenPackets.{TakenPackets}
+use Rattle.elementary_streams.specs.declared.pes_packets.PlacedPacket.{PlacedPacket}
+use Rattle.elementary_streams.specs.declared.pes_packets.TakenPackets.{TakenPackets}
 use Rattle.program_reader.specs.declared.timed_picture.TimedPicture.{TimedPicture}
 use Rattle.program_reader.specs.KeptUnits.{AreRows, first_of}
 use Rattle.program_reader.specs.Units.{AreKept, AreInOrder, last_of}
-use Rattle.program_reader.specs.Private.AudioStarts.{IsNear}
-use Rattle.program_reader.specs.Private.Dues.{IsTime}
-use Rattle.program_reader.specs.Private.TakenPackets.{Holds}
+use Rattle.elementary_streams.specs.NearTimes.{IsNear, IsTime}
+use Rattle.elementary_streams.specs.Taken.{Holds}
 use Rattle.program_reader.specs.Private.TimedPictures.{IsShown}
 
 -- what is taken of a stream of a file within its limit

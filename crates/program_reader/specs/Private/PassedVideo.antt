@@ -1,24 +1,31 @@
 -- One unit of a video that has passed, and the video of all.
-use Rattle.std.specs.Prelude.{◌≡◌, ℕ, ◌+◌, ◌-◌, ◌^◌, ◌≤◌, min, Bool, List, [], ◌∷◌, ◌++◌, length, Option, Some, None, Result, MatchResult, unwrap_or}
+use Rattle.std.specs.Prelude.{◌≡◌, ◌⊎◌, ℕ, ◌+◌, ◌-◌, ◌^◌, ◌≤◌, min, Bool, List, [], ◌∷◌, ◌++◌, length, Option, Some, None, Result, MatchResult, unwrap_or}
+use Rattle.pes_units.specs.declared.pes_fault.PesFault.{PesFault}
 use Rattle.pes_units.specs.declared.times.Times.{Times}
 use Rattle.es_units.specs.declared.unit_cutter.CutUnit.{CutUnit}
 use Rattle.es_units.specs.UnitCutter.{place_of}
 use Rattle.ts_demux.specs.declared.demuxed.PesUnit.{PesUnit}
 use Rattle.program_reader.specs.declared.kept_units.KeptUnits.{KeptUnits}
 use Rattle.program_reader.specs.declared.passed_units.PassedUnits.{PassedUnits}
-use Rattle.program_reader.specs.declared.pes_packets.PlacedPacket.{PlacedPacket}
+use Rattle.elementary_streams.specs.declared.pes_packets.PlacedPacket.{PlacedPacket}
 use Rattle.program_reader.specs.declared.program_fault.ProgramFault.{ProgramFault}
+use Rattle.program_reader.specs.declared.program_fault.ProgramFault.TheVariants.{OutOfMemory}
 use Rattle.program_reader.specs.declared.timed_picture.TimedPicture.{TimedPicture}
 use Rattle.program_reader.specs.declared.unit_picture.TimedUnit.{TimedUnit}
 use Rattle.program_reader.specs.declared.video_places.VideoPlaces.{VideoPlaces}
 use Rattle.program_reader.specs.declared.video_walk.WalkedVideo.{WalkedVideo}
+use Rattle.program_reader.specs.Faults.{of_pes}
 use Rattle.program_reader.specs.Intervals.{nearest}
 use Rattle.program_reader.specs.KeptUnits.{row_of}
-use Rattle.program_reader.specs.Packets.{joined, placed_from}
+use Rattle.elementary_streams.specs.Packets.{joined, placed_from}
 use Rattle.program_reader.specs.PictureTimes.{times_of_unit}
 use Rattle.program_reader.specs.Units.{unit_bytes}
 use Rattle.program_reader.specs.VideoWalk.{Stand}
 use Rattle.program_reader.specs.Private.TimedPictures.{IsFound, IsNotFound, LastTells}
+
+-- what a fault says of a packet at a place of the file with this fault, or none
+abbrev pub IsFaultOf : ℕ → Option PesFault → ProgramFault → Type 0
+IsFaultOf at found fault = (fault ≡ OutOfMemory) ⊎ ((said : PesFault) × (found ≡ Some said) × (fault ≡ of_pes at said))
 
 -- a unit is kept behind others as this picture; a last one that is none is dropped
 abbrev pub IsKeptAs : KeptUnits → ℕ × ℕ → Option TimedPicture → KeptUnits → Type 0

@@ -1,7 +1,7 @@
 -- Pieces of a PES packet that are added, and the frames that are left behind them.
 use Rattle.std.specs.Prelude.{◌≡◌, ℕ, ◌+◌, ◌<◌, ◌≤◌, ◌^◌, List, [], ◌∷◌, ◌++◌, map, ℤ}
 use Rattle.audio_frames.specs.declared.frame.Frame.{Frame}
-use Rattle.program_reader.specs.declared.pes_packets.PlacedPacket.{PlacedPacket}
+use Rattle.elementary_streams.specs.declared.pes_packets.PlacedPacket.{PlacedPacket}
 use Rattle.program_reader.specs.declared.program.AudioPiece.{AudioPiece}
 use Rattle.program_reader.specs.Audio.{time_of_byte, payload_place, packet_size, piece_places, ArePieces}
 use Rattle.program_reader.specs.Private.Dues.{IsTimeFrom}

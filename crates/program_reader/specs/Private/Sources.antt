@@ -4,16 +4,17 @@ use Rattle.std.specs.List.{flat_map}
 use Rattle.ts_demux.specs.declared.demuxed.AudioStream.{AudioStream}
 use Rattle.ts_demux.specs.declared.demuxed.Demuxed.{Demuxed}
 use Rattle.ts_demux.specs.declared.demuxed.PesUnit.{PesUnit}
-use Rattle.program_reader.specs.declared.audio_stream.ReadStream.{ReadStream}
+use Rattle.elementary_streams.specs.declared.audio_stream.ReadStream.{ReadStream}
 use Rattle.program_reader.specs.declared.due_program.BesideVideo.{BesideVideo}
 use Rattle.program_reader.specs.declared.kept_units.KeptUnit.{KeptUnit}
 use Rattle.program_reader.specs.declared.timed_picture.TimedPicture.{TimedPicture}
 use Rattle.program_reader.specs.declared.video_stream.ReadVideo.{ReadVideo}
 use Rattle.program_reader.specs.KeptUnits.{AreRows}
 use Rattle.program_reader.specs.Programs.{HasPictures}
-use Rattle.program_reader.specs.Private.AudioStarts.{IsNear, IsStreamRead}
-use Rattle.program_reader.specs.Private.Dues.{IsTime, IsTimeFrom}
-use Rattle.program_reader.specs.Private.TakenPackets.{AreTaken}
+use Rattle.elementary_streams.specs.NearTimes.{IsNear, IsTime}
+use Rattle.elementary_streams.specs.Audio.{IsStreamRead}
+use Rattle.program_reader.specs.Private.Dues.{IsTimeFrom}
+use Rattle.elementary_streams.specs.Taken.{AreTaken}
 
 -- what is taken out of a file, by its parts
 abbrev pub with_video : BesideVideo → List PesUnit → Demuxed

@@ -9,7 +9,7 @@ use Rattle.stream_audit.specs.declared.audit_stop.AuditStop.{AuditStop}
 use Rattle.stream_audit.specs.declared.audit_stop.AuditStop.TheVariants.{OutOfMemory}
 use Rattle.stream_audit.specs.declared.audited_stream.AuditedStream.{AuditedStream}
 use Rattle.stream_audit.specs.declared.kept_units.KeptUnits.{KeptUnits}
-use Rattle.stream_audit.specs.declared.pes_starts.TheConstants.{PES_PACKETS_MOST}
+use Rattle.elementary_streams.specs.declared.pes_starts.TheConstants.{PES_PACKETS_MOST}
 use Rattle.stream_audit.specs.declared.read_program.ReadProgram.{ReadProgram}
 use Rattle.stream_audit.specs.Findings.{CanBeJudged}
 use Rattle.stream_audit.specs.Refusals.{IsAudioSound, IsFirstAudioStopped, IsProgramRead, IsVideoSound, IsVideoStopped}

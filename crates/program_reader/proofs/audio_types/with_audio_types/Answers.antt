@@ -1,7 +1,7 @@
 use Rattle.std.proofs.Common.{List, [], ◌∷◌, ◌++◌, take, ap, ◌∙◌, arith}
 use Rattle.psi_tables.specs.declared.program_map.ProgramMap.{ProgramMap}
 use Rattle.psi_tables.specs.declared.stream.Stream.{Stream}
-use Rattle.program_reader.specs.AudioTypes.{audio_type}
+use Rattle.elementary_streams.specs.Audio.{audio_type}
 use Rattle.program_reader.proofs.AudioMaps.{same_count, typed_more, typed_room, typed_all}
 use Rattle.program_reader.proofs.audio_types.with_audio_types.Goals as goal
 

@@ -1,7 +1,7 @@
 use Rattle.std.proofs.Common.{◌≡◌, ◌++◌, map, take}
 use Rattle.ts_demux.specs.declared.demuxed.AudioStream.{AudioStream}
 use Rattle.program_stream.specs.Streams.{map_stream}
-use Rattle.program_reader.specs.AudioTypes.{audio_type}
+use Rattle.elementary_streams.specs.Audio.{audio_type}
 use Rattle.program_reader.proofs.audio_types.with_audio_types.Given as goal
 
 abbrev pub invariant-loop-at : goal.invariant-loop-at

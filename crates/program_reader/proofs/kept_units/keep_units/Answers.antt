@@ -9,7 +9,7 @@ use Rattle.program_reader.specs.KeptUnits.{kept_at}
 use Rattle.program_reader.specs.Sizes.{AreUnitSizes}
 use Rattle.program_reader.specs.Units.{state_behind, unit_bytes}
 use Rattle.program_reader.specs.Private.TimedPictures.{IsPossible}
-use Rattle.program_reader.proofs.TimeRange.{IsInRange}
+use Rattle.elementary_streams.proofs.TimeRange.{IsInRange}
 use Rattle.program_reader.proofs.KeepLemmas.{
   all_earlier,
   earlier_last,

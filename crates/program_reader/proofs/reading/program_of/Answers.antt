@@ -1,10 +1,11 @@
 use Rattle.std.proofs.Common.{◌≡◌, List, map, refl, sym, ◌∙◌, subst, inr}
 use Rattle.ts_demux.specs.declared.demuxed.AudioStream.{AudioStream}
 use Rattle.ts_demux.specs.declared.demuxed.Demuxed.{Demuxed}
-use Rattle.program_reader.specs.declared.audio_stream.ReadStream.{ReadStream}
-use Rattle.program_reader.specs.AudioTypes.{audio_type, typed}
+use Rattle.elementary_streams.specs.declared.audio_stream.ReadStream.{ReadStream}
+use Rattle.elementary_streams.specs.Audio.{audio_type}
+use Rattle.program_reader.specs.AudioTypes.{typed}
 use Rattle.program_reader.specs.Programs.{IsProgram}
-use Rattle.program_reader.specs.Private.AudioStarts.{IsNear}
+use Rattle.elementary_streams.specs.NearTimes.{IsNear}
 use Rattle.program_reader.proofs.AudioMaps.{with_map, parts_typed}
 use Rattle.program_reader.proofs.ProgramLemmas.{bad_streams, streams_here, too_many}
 use Rattle.program_reader.proofs.SizedLemmas.{program_sizes}

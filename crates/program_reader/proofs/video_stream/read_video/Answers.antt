@@ -1,7 +1,7 @@
 use Rattle.std.proofs.Common.{◌≡◌, ◌+◌, ◌≤◌, ℕ, true, List, length, ap, subst, sym, ◌∙◌, arith}
 use Rattle.ts_demux.specs.declared.demuxed.PesUnit.{PesUnit}
-use Rattle.program_reader.specs.Private.TakenPackets.{AreTaken}
-use Rattle.program_reader.proofs.ProgramLemmas.{video_is, bad_units, or_memory}
+use Rattle.elementary_streams.specs.Taken.{AreTaken}
+use Rattle.program_reader.proofs.ProgramLemmas.{video_is, bad_packets, bad_units, or_memory}
 use Rattle.program_reader.proofs.SizedLemmas.{video_sizes}
 use Rattle.program_reader.proofs.video_stream.read_video.Goals as goal
 
@@ -31,3 +31,7 @@ pub returns-in-Ok-keep_units-clause-sizes : goal.returns-in-Ok-keep_units-clause
 returns-in-Ok-keep_units-clause-sizes c =
     video_sizes c.read_units.result c.in-Ok.taken.payload.items c.args.wanted.now.coarser.now c.args.wanted.now.are_wanted c.in-Ok-keep_units.kept.units.items c.keep_units.new.sizes.items
     c.read_units.ensures.bytes c.read_units.ensures.rows c.in-Ok-keep_units.ensures.sizes
+
+pub returns-in-Err-clause-video : goal.returns-in-Err-clause-video
+returns-in-Err-clause-video c = λ demuxed same.
+    bad_packets demuxed c.as_slice.result.now c.in-Err.fault c.stream_refused.result (c.as_slice.ensures ∙ sym same) c.in-Err.ensures c.stream_refused.ensures

@@ -12,5 +12,6 @@ returns c =
       check_plan = c.check_plan_calls_for_one.ensures;
       impossible = c.impossible_calls_for_one.ensures;
       fit = c.fit_calls_for_one.ensures;
+      audit = c.audit_calls_for_one.ensures;
     } in
     words_call_for_one laws

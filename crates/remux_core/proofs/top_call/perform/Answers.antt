@@ -5,7 +5,7 @@ use Rattle.command_words.specs.declared.status.Status.TheVariants.{Usage}
 use Rattle.command_words.specs.declared.command.Parsed.{Parsed}
 use Rattle.command_words.specs.Command.{IsSaid}
 use Rattle.command_words.specs.Outside.{shelf_facts}
-use Rattle.command_words.specs.Parsed.{command_of, plan_of, gen_of, run_of, check_of, probe_of, check_plan_of, impossible_of, fit_of}
+use Rattle.command_words.specs.Parsed.{command_of, plan_of, gen_of, run_of, check_of, probe_of, check_plan_of, impossible_of, fit_of, audit_of}
 use Rattle.command_words.specs.Task.{no_task}
 use Rattle.command_words.proofs.Performed.{performs_uncalled}
 use Rattle.remux_core.proofs.top_call.perform.Goals as goal
@@ -73,4 +73,11 @@ returns-in-Some-Fit g c = record {
   command = fit_of c.in-Some-Fit.files;
   said = subst (λ (p : Parsed). IsSaid (map string_bytes c.args.words.now) (command_of (Some p))) c.in-Some-Fit.field-0-is c.in-Some-Fit.ensures;
   performs = c.fit_job.ensures;
+}
+
+pub returns-in-Some-Audit : goal.returns-in-Some-Audit
+returns-in-Some-Audit g c = record {
+  command = audit_of c.in-Some-Audit.words;
+  said = subst (λ (p : Parsed). IsSaid (map string_bytes c.args.words.now) (command_of (Some p))) c.in-Some-Audit.field-0-is c.in-Some-Audit.ensures;
+  performs = c.audit_file.ensures;
 }

@@ -66,6 +66,7 @@ returns-in-Ok-clause-called_for g c = λ files status told calls none.
       check_plan = c.check_plan_calls_for_one.ensures;
       impossible = c.impossible_calls_for_one.ensures;
       fit = c.fit_calls_for_one.ensures;
+      audit = c.audit_calls_for_one.ensures;
     } in
     as_called laws (map string_bytes c.args.words.now) files (shelf c.args.shelf.now) (shelf c.perform.new.shelf) (sink c.args.out.now) (sink c.put_all.new.sink)
     ended.status status (returns-in-Ok-clause-outcome g c) told calls none

@@ -1,4 +1,4 @@
-use Rattle.std.proofs.Common.{◌≡◌, ◌≤◌, ◌<◌, ◌^◌, ◌∷◌, ◌++◌, [], List, All, refl, sym, subst, arith}
+use Rattle.std.proofs.Common.{◌≤◌, ◌^◌, [], List, All, refl, sym, subst, arith}
 use Rattle.std.proofs.lemmas.List.Elements.{All-push}
 use Rattle.tstd_model.specs.declared.decoder_input.Removal.{Removal}
 use Rattle.stream_audit.proofs.FrameLaws.{frame_counted, next_standing, removal_more}

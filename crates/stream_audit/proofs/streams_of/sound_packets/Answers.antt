@@ -1,6 +1,6 @@
 use Rattle.std.proofs.Common.{◌∙◌}
 use Rattle.stream_audit.proofs.AuditLaws.{wants_memory}
-use Rattle.stream_audit.proofs.CarriedSizes.{places_most}
+use Rattle.elementary_streams.proofs.CarriedSizes.{places_most}
 use Rattle.stream_audit.proofs.streams_of.sound_packets.Goals as goal
 
 pub returns-in-Ok-clause-few : goal.returns-in-Ok-clause-few

@@ -1,5 +1,5 @@
 use Rattle.std.proofs.Common.{◌∙◌, length, ap}
-use Rattle.stream_audit.proofs.VideoFacts.{is_video, sequence_is, video_few, video_front}
+use Rattle.stream_audit.proofs.VideoFacts.{is_video, sequence_is, video_few, video_front, video_stopped}
 use Rattle.stream_audit.proofs.video_packets.video_of.Goals as goal
 
 pub front-first-requires : goal.front-first-requires
@@ -12,3 +12,6 @@ returns-clause-stream c =
     c.front-first.result.now c.front-first.ensures in
     is_video c.args.places.now c.args.zero c.args.pid c.bytes_before.result c.in-Some.from c.unit_bytes.result c.args.kept.now c.args.packets.now c.front-first.result.now
     c.in_ok-stream.stream sequence c.bytes_before.ensures c.unit_bytes.ensures first_is (rw c.new-parts.ensures at c.in_ok-stream.ensures.stream)
+
+pub returns-in-Err-clause-refused : goal.returns-in-Err-clause-refused
+returns-in-Err-clause-refused c = video_stopped c.args.pid c.args.packets.now c.in-Err.fault c.stream_stop.result c.in-Err.ensures c.stream_stop.ensures

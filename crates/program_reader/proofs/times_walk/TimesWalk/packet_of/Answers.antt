@@ -1,6 +1,6 @@
 use Rattle.std.proofs.Common.{◌≤◌, arith}
 use Rattle.std.proofs.lemmas.List.Elements.{All-more}
-use Rattle.program_reader.specs.declared.pes_packets.PlacedPacket.{PlacedPacket}
+use Rattle.elementary_streams.specs.declared.pes_packets.PlacedPacket.{PlacedPacket}
 use Rattle.program_reader.specs.PictureTimes.{no_times}
 use Rattle.program_reader.proofs.TimesWalked.{next_of}
 use Rattle.program_reader.proofs.times_walk.TimesWalk.packet_of.Goals as goal

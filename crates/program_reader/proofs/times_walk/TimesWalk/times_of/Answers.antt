@@ -1,6 +1,6 @@
 use Rattle.std.proofs.Common.{◌≤◌, ◌<◌, ℕ, All, take, subst, ◌∙◌, sym, arith}
 use Rattle.std.proofs.lemmas.List.{take_all}
-use Rattle.program_reader.specs.declared.pes_packets.PlacedPacket.{PlacedPacket}
+use Rattle.elementary_streams.specs.declared.pes_packets.PlacedPacket.{PlacedPacket}
 use Rattle.program_reader.specs.Private.TimesWalk.{EndsWith}
 use Rattle.program_reader.proofs.TimesWalked.{no_packet, times_beyond, times_by_last, times_past}
 use Rattle.program_reader.proofs.times_walk.TimesWalk.times_of.Goals as goal

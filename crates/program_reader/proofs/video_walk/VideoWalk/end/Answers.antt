@@ -3,7 +3,7 @@ use Rattle.std.specs.Option.{option_copied}
 use Rattle.ts_demux.specs.declared.demuxed.PesUnit.{PesUnit}
 use Rattle.program_reader.specs.declared.unit_sizes.SizesWanted.{SizesWanted}
 use Rattle.program_reader.specs.KeptUnits.{kept_at}
-use Rattle.program_reader.specs.Packets.{joined}
+use Rattle.elementary_streams.specs.Packets.{joined}
 use Rattle.program_reader.specs.Programs.{video_bytes}
 use Rattle.program_reader.specs.Sizes.{AreUnitSizes}
 use Rattle.program_reader.specs.VideoWalk.{AreFew, wanted_of}

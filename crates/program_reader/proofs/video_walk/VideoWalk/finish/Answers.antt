@@ -1,5 +1,5 @@
 use Rattle.std.proofs.Common.{length, inr}
-use Rattle.program_reader.specs.Packets.{joined}
+use Rattle.elementary_streams.specs.Packets.{joined}
 use Rattle.program_reader.proofs.WalkEnds.{answer_refused}
 use Rattle.program_reader.proofs.WalkLemmas.{reads_here, refused_known}
 use Rattle.program_reader.proofs.video_walk.VideoWalk.finish.Goals as goal

@@ -1,5 +1,5 @@
 use Rattle.std.proofs.Common.{inr, arith}
-use Rattle.program_reader.specs.Packets.{joined}
+use Rattle.elementary_streams.specs.Packets.{joined}
 use Rattle.program_reader.proofs.WalkEnds.{answer_last, answer_none, answer_units, cut_all, follows_last, kept_end, passed_last, possible_last, refused_end, short_last, sized_end, walked_sizes}
 use Rattle.program_reader.proofs.video_walk.VideoWalk.read_last.Goals as goal
 

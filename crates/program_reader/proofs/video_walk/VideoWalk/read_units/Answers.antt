@@ -1,5 +1,5 @@
 use Rattle.std.proofs.Common.{◌≡◌, ◌+◌, ℕ, length, subst, sym, ◌∙◌, arith, refl}
-use Rattle.program_reader.specs.Packets.{joined}
+use Rattle.elementary_streams.specs.Packets.{joined}
 use Rattle.program_reader.specs.VideoWalk.{Reads}
 use Rattle.program_reader.proofs.WalkLemmas.{left_on, not_refused, reads_any, reads_here, taken_all}
 use Rattle.program_reader.proofs.video_walk.VideoWalk.read_units.Goals as goal

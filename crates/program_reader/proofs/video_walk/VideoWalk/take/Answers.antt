@@ -1,5 +1,5 @@
 use Rattle.std.proofs.Common.{◌∷◌, ◌++◌, [], length, sym, ◌∙◌, arith}
-use Rattle.program_reader.specs.Packets.{joined}
+use Rattle.elementary_streams.specs.Packets.{joined}
 use Rattle.program_reader.proofs.WalkLemmas.{not_refused, payload_is, payload_left, place_fits, reads_here, reads_longer, reads_more, reads_there}
 use Rattle.program_reader.proofs.video_walk.VideoWalk.take.Goals as goal
 

@@ -1,0 +1,3 @@
+mod Auditable
+mod AuditEnds
+mod OneStatus

@@ -1,0 +1,2 @@
+pub mod AuditCommand
+pub mod Private

@@ -1,0 +1,2 @@
+-- What private functions of the crate stand on.
+pub mod Audited

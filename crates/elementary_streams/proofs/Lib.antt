@@ -1,0 +1,9 @@
+pub mod TimeRange
+pub mod TakenLemmas
+pub mod StartLemmas
+pub mod FrameTimes
+pub mod StreamLemmas
+pub mod OneAudio
+pub mod OneStream
+pub mod CarriedSizes
+pub mod FileSizes

@@ -1,0 +1,5 @@
+pub mod Packets
+pub mod Audio
+pub mod NearTimes
+pub mod Taken
+pub mod Private

@@ -1,0 +1,2 @@
+pub mod PesStarts
+pub mod TakenPackets

@@ -1,0 +1,8 @@
+use Rattle.std.proofs.Common.{refl, subst}
+use Rattle.program_reader.specs.declared.program_fault.ProgramFault.{ProgramFault}
+use Rattle.job_programs.specs.Private.Alone.{IsAloneFault}
+use Rattle.job_programs.proofs.alone.alone_in.Goals as goal
+
+pub returns-in-Err-Refused-clause-fault : goal.returns-in-Err-Refused-clause-fault
+returns-in-Err-Refused-clause-fault c =
+    (refl, subst (λ (f : ProgramFault). IsAloneFault c.args.slot c.args.start c.args.number c.as_slice.result.now f) c.in-Err-Refused.field-0-is c.in-Err-Refused.ensures)

@@ -1,6 +1,0 @@
-use Rattle.std.proofs.Common.{take}
-use Rattle.program_reader.specs.Private.AudioStarts.{AreStreamsRead}
-use Rattle.program_reader.proofs.audio_stream.read_streams.Given as goal
-
-abbrev pub invariant-loop-stream : goal.invariant-loop-stream
-invariant-loop-stream l = AreStreamsRead l.first.time (take l.stream-index l.streams) l.read.items

@@ -1,7 +1,0 @@
-use Rattle.std.proofs.Common.{◌≡◌, All, take}
-use Rattle.program_reader.specs.Private.TakenPackets.{Holds}
-use Rattle.program_reader.proofs.TakenLemmas.{IsWhole}
-use Rattle.program_reader.proofs.pes_packets.take_packets.Given as goal
-
-abbrev pub invariant-loop-packet : goal.invariant-loop-packet
-invariant-loop-packet l = Holds (take l.packet-index l.others) l.held × All (IsWhole l.video) (take l.packet-index l.others) × (l.held.dropped ≡ 0)
