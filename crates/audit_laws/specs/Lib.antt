@@ -1,4 +1,5 @@
-pub mod Carried
-pub mod Found
 pub mod Headers
+pub mod Found
+pub mod Carried
 pub mod Kept
+pub mod Written
