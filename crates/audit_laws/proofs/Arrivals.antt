@@ -1,6 +1,7 @@
 -- What the packets of a stream bring to a decoder, by an audit and by the records of the packets: the same.
-use Rattle.std.proofs.Common.{◌≡◌, ℕ, ◌+◌, ◌-◌, ◌<◌, ◌≤◌, ◌==◌, ◌&&◌, ◌*◌, nat_lt, min, Bool, true, false, cond, List, [], ◌∷◌, ◌++◌, All, count_by, length, map, filter, take, drop, replicate, refl, sym, ap, ap₂, subst, ◌∙◌, arith, length-append}
+use Rattle.std.proofs.Common.{◌≡◌, ℕ, suc, ◌+◌, ◌-◌, ◌<◌, ◌≤◌, ◌==◌, ◌&&◌, ◌*◌, nat_lt, min, Bool, true, false, cond, List, [], ◌∷◌, ◌++◌, All, count_by, length, map, filter, take, drop, replicate, refl, sym, ap, ap₂, subst, ◌∙◌, arith, length-append}
 use Rattle.std.specs.List.{flat_map, sum_by}
+use Rattle.std.proofs.lemmas.Bool.{ltb-false}
 use Rattle.std.proofs.lemmas.List.{append-nil, append_assoc, length-replicate}
 use Rattle.std.proofs.lemmas.List.Sums.{sum_by-append, sum_by-cons}
 use Rattle.std.proofs.lemmas.List.Folds.{sum_by-replicate}
@@ -107,7 +108,7 @@ arrivals-are test from (packet ∷ more) rest = by_test (test packet) (arrivals-
         ++ arrivals_of test (λ packet. header_bytes (payload_of packet)) (from + 1) more
     by_test true later =
         ap (λ (parts : List PacketPart). audited_arrivals (place_by from packet ∷ places_by test (from + 1) more) parts) split
-        ∙ ap₂ (λ (xs : List PacketPart) (as : List Arrival). record { slot_no = from; header = count_by is_header xs; payload = count_by is_payload xs } ∷ as) here
+        ∙ ap₂ (λ (xs : List PacketPart) (more_arrivals : List Arrival). record { slot_no = from; header = count_by is_header xs; payload = count_by is_payload xs } ∷ more_arrivals) here
         (ap (audited_arrivals (places_by test (from + 1) more)) behind ∙ later)
         ∙ ap₂ (λ (h p : ℕ). record { slot_no = from; header = h; payload = p } ∷ arrivals_of test (λ packet. header_bytes (payload_of packet)) (from + 1) more) header size
     by_test false later = later
@@ -123,7 +124,7 @@ payload-parts pid (packet ∷ more) = by_tests (packet.pid == pid) (nat_lt 0 (le
       where
         empty : (bytes : List ℕ) → nat_lt 0 (length bytes) ≡ false → length bytes ≡ 0
         empty [] is = refl
-        empty (byte ∷ bytes) is = absurd cc
+        empty (byte ∷ bytes) is = absurd (let low = ltb-false 0 (suc (length bytes)) is in omega (arith, low))
 
         no-parts : (parts : List PacketPart) → length parts ≡ 0 → parts ≡ []
         no-parts [] is = refl

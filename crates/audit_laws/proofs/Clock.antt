@@ -14,7 +14,7 @@ use Rattle.ts_demux.specs.declared.pid_places.Place.{Place}
 use Rattle.ts_demux.specs.PidPlaces.{places_on}
 use Rattle.stream_audit.specs.Clock.{PlacedPcr, apart, clock_of, first_off, is_off, pcrs_of, ticks_from}
 use Rattle.time_laws.specs.Clock.{HasPcrIn, IsClock}
-use Rattle.audit_laws.proofs.Places.{own_pcr, place_by, places-are, places_by}
+use Rattle.audit_laws.proofs.Places.{PacketLaws, own_pcr, place_by, places-are, places_by}
 
 -- ---- references that a clock gives
 
@@ -86,10 +86,7 @@ some-of pid from zero pcr (first ∷ more) packet there own has none =
     absurd (omega (arith, size))
 some-of pid from (suc k) pcr (first ∷ more) packet there own has none = by_test (first.pid == pid) refl (some-of pid (from + 1) k pcr more packet there own has) none
   where
-    abbrev Rest : Type 0
-    Rest = pcrs_of (places_by (λ (p : PacketRecord). p.pid == pid) (from + 1) more) ≡ [] → ⊥
-
-    by_pcr : (found : Option ℕ) → own_pcr first ≡ found → Rest → pcrs_of (place_by from first ∷ places_by (λ (p : PacketRecord). p.pid == pid) (from + 1) more) ≡ [] → ⊥
+    by_pcr : (found : Option ℕ) → own_pcr first ≡ found → (pcrs_of (places_by (λ (p : PacketRecord). p.pid == pid) (from + 1) more) ≡ [] → ⊥) → pcrs_of (place_by from first ∷ places_by (λ (p : PacketRecord). p.pid == pid) (from + 1) more) ≡ [] → ⊥
     by_pcr None is rest nothing =
         let same : pcrs_of (place_by from first ∷ places_by (λ (p : PacketRecord). p.pid == pid) (from + 1) more) ≡ pcrs_of (places_by (λ (p : PacketRecord). p.pid == pid) (from + 1) more) = rw is refl in
         rest (sym same ∙ nothing)
@@ -99,12 +96,12 @@ some-of pid from (suc k) pcr (first ∷ more) packet there own has none = by_tes
         let size : suc (length (pcrs_of (places_by (λ (p : PacketRecord). p.pid == pid) (from + 1) more))) ≡ 0 = ap (length {A = PlacedPcr}) (sym same ∙ nothing) in
         omega (arith, size)
 
-    by_value : (b : Bool) → Rest
+    by_value : (b : Bool) → (pcrs_of (places_by (λ (p : PacketRecord). p.pid == pid) (from + 1) more) ≡ [] → ⊥)
         → pcrs_of (cond b (place_by from first ∷ places_by (λ (p : PacketRecord). p.pid == pid) (from + 1) more) (places_by (λ (p : PacketRecord). p.pid == pid) (from + 1) more)) ≡ [] → ⊥
     by_value true rest left = by_pcr (own_pcr first) refl rest left
     by_value false rest left = rest left
 
-    by_test : (b : Bool) → (first.pid == pid) ≡ b → Rest
+    by_test : (b : Bool) → (first.pid == pid) ≡ b → (pcrs_of (places_by (λ (p : PacketRecord). p.pid == pid) (from + 1) more) ≡ [] → ⊥)
         → pcrs_of (cond (first.pid == pid) (place_by from first ∷ places_by (λ (p : PacketRecord). p.pid == pid) (from + 1) more) (places_by (λ (p : PacketRecord). p.pid == pid) (from + 1) more)) ≡ [] → ⊥
     by_test b is rest nothing =
         by_value b rest
@@ -123,7 +120,7 @@ pub record HasClock (file : List ℕ) (slot pid base : ℕ) : Type 0 where
   pub zero_is : clock_of slot (places_on file pid) ≡ Some base
   pub off_is : first_off slot base (places_on file pid) ≡ None
 
-module _ (file : List ℕ) (list : List PacketRecord) (slot pid base : ℕ) (read : packets file ≡ map Some list) (counted : AreCounted pid list) (clock : IsClock list slot pid base) where
+module _ (laws : PacketLaws) (file : List ℕ) (list : List PacketRecord) (slot pid base : ℕ) (read : packets file ≡ map Some list) (counted : AreCounted pid list) (clock : IsClock list slot pid base) where
   give : GiveClock slot pid base 0 list
   give = λ k pcr packet there own has.
       clock.each k pcr (record { packet = packet; there = there; pid_is = own; pcr_is = has }) ∙ ap (λ (n : ℕ). pcr_at base n slot) (let e : k ≡ 0 + k = omega arith in e)
@@ -139,7 +136,7 @@ module _ (file : List ℕ) (list : List PacketRecord) (slot pid base : ℕ) (rea
 
   pub has-clock : HasClock file slot pid base
   has-clock = record {
-    zero_is = ap (clock_of slot) (places-are file list read pid counted) ∙ first-zero slot base (references_of pid 0 list) clock.below all some;
-    off_is = ap (first_off slot base) (places-are file list read pid counted)
+    zero_is = ap (clock_of slot) (places-are laws file list read pid counted) ∙ first-zero slot base (references_of pid 0 list) clock.below all some;
+    off_is = ap (first_off slot base) (places-are laws file list read pid counted)
         ∙ ap (option_map (λ (reference : PlacedPcr). 188 * reference.packet)) (none-off slot base (references_of pid 0 list) all);
   }

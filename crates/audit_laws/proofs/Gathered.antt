@@ -1,7 +1,7 @@
 -- The bytes of the PES packets of a stream are those of its payloads, where each header is within the payload that it begins in.
-use Rattle.std.proofs.Common.{◌≡◌, ℕ, ◌+◌, ◌-◌, ◌<◌, ◌≤◌, nat_le, nat_lt, min, Bool, true, false, cond, ◌&&◌, List, [], ◌∷◌, ◌++◌, All, length, map, drop, replicate, refl, sym, ap, ap₂, subst, ◌∙◌, arith, length-append}
+use Rattle.std.proofs.Common.{◌≡◌, ℕ, zero, suc, ◌+◌, ◌-◌, ◌<◌, ◌≤◌, nat_le, nat_lt, min, Bool, true, false, cond, ◌&&◌, List, [], ◌∷◌, ◌++◌, All, length, map, drop, replicate, refl, sym, ap, ap₂, subst, ◌∙◌, arith, length-append}
 use Rattle.std.specs.List.{flat_map, range_with_len, sum_by}
-use Rattle.std.proofs.lemmas.Bool.{le-leb, lt-ltb}
+use Rattle.std.proofs.lemmas.Bool.{le-leb, lt-ltb, ltb-false}
 use Rattle.std.proofs.lemmas.List.{append-nil, append_assoc, length-drop, replicate-append-replicate}
 use Rattle.std.proofs.lemmas.List.Elements.{All-cons, All-head, All-nil, All-tail}
 use Rattle.std.proofs.lemmas.List.Sums.{sum_by-cons}
@@ -50,9 +50,9 @@ LeavesData carried = header_bytes carried.payload < length carried.payload.bytes
 
 -- bytes that go on
 going : (start : Bool) (bytes : List ℕ) → (start && nat_lt 0 (length bytes)) ≡ false → parts_of_payload (record { start = start; bytes = bytes }) ≡ replicate (length bytes) Data
-going false bytes is = refl
-going true [] is = refl
-going true (byte ∷ bytes) is = absurd cc
+going false bytes is = ap (λ (n : ℕ). replicate n Data) (let e : length bytes - 0 ≡ length bytes = omega arith in e)
+going true [] is = ap (λ (h : ℕ). replicate h PesHeader ++ replicate (0 - h) Data) (let e : min (header_length []) 0 ≡ 0 = omega arith in e)
+going true (byte ∷ bytes) is = absurd (let low = ltb-false 0 (suc (length bytes)) is in omega (arith, low))
 
 -- a payload in which a PES packet begins, and the bytes that go on behind it
 begun : (bytes more : List ℕ) → header_bytes (record { start = true; bytes = bytes }) < length bytes
@@ -77,9 +77,6 @@ pub parts-gathered : (carried : List CarriedPayload) → All LeavesData carried
 parts-gathered [] all = refl
 parts-gathered (first ∷ more) all = by_test (is_start first.payload) refl (parts-gathered more (All-tail LeavesData first more all))
   where
-    abbrev Rest : Type 0
-    Rest = flat_map (λ (c : CarriedPayload). parts_of_payload c.payload) more ≡ replicate (length (up_to_start more)) Data ++ plain_parts (bytes_of (gathered more))
-
     fits : header_bytes first.payload < length first.payload.bytes
     fits = All-head LeavesData first more all
 
@@ -87,7 +84,7 @@ parts-gathered (first ∷ more) all = by_test (is_start first.payload) refl (par
     starts true own is = refl
     starts false own is = absurd cc
 
-    by_test : (b : Bool) → is_start first.payload ≡ b → Rest
+    by_test : (b : Bool) → is_start first.payload ≡ b → (flat_map (λ (c : CarriedPayload). parts_of_payload c.payload) more ≡ replicate (length (up_to_start more)) Data ++ plain_parts (bytes_of (gathered more)))
         → parts_of_payload first.payload ++ flat_map (λ (c : CarriedPayload). parts_of_payload c.payload) more
         ≡ replicate (length (up_to_start (first ∷ more))) Data ++ plain_parts (bytes_of (gathered (first ∷ more)))
     by_test true is rest =

@@ -111,10 +111,7 @@ data-there [] (y ∷ ys) byte are there = absurd are
 data-there (x ∷ xs) [] byte are there = absurd are
 data-there (x ∷ xs) (y ∷ ys) byte are there = by_test (is_payload x) (is_payload y) are.0.payload (λ k. data-there xs ys k are.1) byte there
   where
-    abbrev Rest : Type 0
-    Rest = (k : ℕ) → slice_get (filter is_payload xs) k ≡ Some Data → slice_get (filter is_payload ys) k ≡ Some Data
-
-    by_test : (a b : Bool) → a ≡ b → Rest → (byte : ℕ) → slice_get (cond a (x ∷ filter is_payload xs) (filter is_payload xs)) byte ≡ Some Data
+    by_test : (a b : Bool) → a ≡ b → ((k : ℕ) → slice_get (filter is_payload xs) k ≡ Some Data → slice_get (filter is_payload ys) k ≡ Some Data) → (byte : ℕ) → slice_get (cond a (x ∷ filter is_payload xs) (filter is_payload xs)) byte ≡ Some Data
         → slice_get (cond b (y ∷ filter is_payload ys) (filter is_payload ys)) byte ≡ Some Data
     by_test true true same rest zero found = ap (λ (part : PacketPart). Some part) (are.0.is_data (same_Some x Data found))
     by_test true true same rest (suc k) found = rest k found
@@ -153,7 +150,8 @@ module _ (slot : ℕ) (more fewer : List Arrival) (removals : List Removal) (hav
     byte = fault.byte;
     arrival = fault.arrival;
     is_data = data-there (parts more) (parts fewer) fault.byte beside fault.is_data;
-    arrives = sym (same-kept (parts more) (parts fewer) (arrives slot fewer) beside) ∙ ap (kept is_payload (parts more)) (sym (same-arrives slot more fewer have)) ∙ fault.arrives;
+    arrives = ap (λ (entries : List ℕ). slice_get entries fault.byte)
+        (sym (same-kept (parts more) (parts fewer) (arrives slot fewer) beside) ∙ ap (kept is_payload (parts more)) (sym (same-arrives slot more fewer have))) ∙ fault.arrives;
     past = fault.past;
     stays = fault.stays;
   }

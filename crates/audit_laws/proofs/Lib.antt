@@ -1,5 +1,6 @@
 pub mod Arrivals
 pub mod Clock
+mod Examples
 pub mod Found
 pub mod Gathered
 pub mod Headers

@@ -1,23 +1,38 @@
 -- The packets of a stream that are counted, as an audit takes them: each is the place of its number, with its own payload.
-use Rattle.std.proofs.Common.{◌≡◌, ℕ, zero, suc, ◌+◌, ◌-◌, ◌<◌, ◌≤◌, ◌==◌, eqb, nat_lt, Bool, true, false, cond, ◌&&◌, ◌||◌, List, [], ◌∷◌, ◌++◌, length, map, filter, take, drop, get_or, Option, Some, None, option_and_then, refl, sym, ap, ap₂, subst, ◌∙◌, arith}
+use Rattle.std.proofs.Common.{◌≡◌, ℕ, zero, suc, ◌+◌, ◌-◌, ◌<◌, ◌≤◌, ◌==◌, eqb, nat_lt, Bool, true, false, cond, if◌then◌else◌, ◌&&◌, ◌||◌, List, [], ◌∷◌, ◌++◌, length, map, filter, take, drop, get_or, Option, Some, None, option_and_then, refl, sym, ap, ap₂, subst, ◌∙◌, arith}
 use Rattle.std.specs.Prelude.{slice_get}
 use Rattle.std.specs.List.{flat_map, list_any, range_with_len}
-use Rattle.std.proofs.lemmas.Bool.{eqb-true, eq-eqb}
+use Rattle.std.proofs.lemmas.Bool.{and_right, eqb-true, eq-eqb, ltb-false}
 use Rattle.std.proofs.lemmas.List.{append-nil, drop-map, length-map, map-append}
+use Rattle.std.proofs.lemmas.List.FromFn.{length-map-range_with_len}
 use Rattle.std.proofs.lemmas.List.Elements.{filter-append}
 use Rattle.std.proofs.lemmas.List.Folds.{flat_map-map}
 use Rattle.std.proofs.lemmas.Option.{get_or_from_slice_get, slice_get_within}
 use Rattle.std.proofs.Math.Seq.{drop-append_seam, take-suc}
 use Rattle.bit_lists.specs.Payload.{CarriedPayload, Payload, is_start}
 use Rattle.ts_packets.specs.Packet.{PacketRecord, packet_identifier, packet_of}
-use Rattle.ts_packets.specs.TransportStream.{is_of_pid, packets, piece_at, piece_count}
-use Rattle.ts_packets.specs.Carried.{has_payload_on, payload_of, payloads_on}
+use Rattle.ts_packets.specs.TransportStream.{is_of_pid, packets, piece_at, piece_count, pid_pieces}
+use Rattle.ts_packets.specs.Carried.{carried, has_payload_on, payload_of, payloads_on}
 use Rattle.layer_laws.specs.Counted.{AreCounted}
-use Rattle.layer_laws.proofs.CountedPackets.{as_many, carried-are, no_packet, stands}
 use Rattle.ts_demux.specs.declared.pid_places.Place.{Place}
 use Rattle.ts_demux.specs.CarriedPackets.{carried_before}
 use Rattle.ts_demux.specs.PidPlaces.{added_at, pcr_in, place_at, places_on}
 use Rattle.stream_audit.specs.Streams.{place_of}
+
+-- ---- the laws below, as these proofs call them
+
+-- in a file of packets the packet of each number is the record of that number, and of packets that are counted on a PID payloads are carried
+pub record PacketLaws : Type 0 where
+  pub stands : (file : List ℕ) (list : List PacketRecord) (n : ℕ) (packet : PacketRecord) → packets file ≡ map Some list → slice_get list n ≡ Some packet
+      → (packet_of (piece_at file n) ≡ Some packet) × (packet_identifier (piece_at file n) ≡ packet.pid)
+  pub carries : (file : List ℕ) (list : List PacketRecord) (pid from to : ℕ) → packets file ≡ map Some list → AreCounted pid list → from ≤ to → to ≤ length list
+      → map (λ (c : CarriedPayload). c.payload) (carried (pid_pieces file pid from to)) ≡ payloads_on pid (take (to - from) (drop from list))
+
+no_packet : PacketRecord
+no_packet = record { pid = 0; start = false; counter = 0; field = None; payload = [] }
+
+pub as-many : (file : List ℕ) (list : List PacketRecord) → packets file ≡ map Some list → piece_count file ≡ length list
+as-many file list read = sym (length-map-range_with_len (λ (n : ℕ). packet_of (piece_at file n)) 0 (piece_count file)) ∙ ap length read ∙ length-map list Some
 
 -- ---- packets by their numbers
 
@@ -66,38 +81,52 @@ along test q f from (packet ∷ more) each = by_test (test packet) (ap q at ∙ 
 payloads-append : (pid : ℕ) (xs ys : List PacketRecord) → payloads_on pid (xs ++ ys) ≡ payloads_on pid xs ++ payloads_on pid ys
 payloads-append pid xs ys = ap (map payload_of) (filter-append (has_payload_on pid) xs ys) ∙ map-append payload_of (filter (has_payload_on pid) xs) (filter (has_payload_on pid) ys)
 
--- the bytes that a packet of its PID carries alone are its payload
+-- what a packet of its PID carries alone
+alone : (pid : ℕ) (packet : PacketRecord) → packet.pid ≡ pid → payloads_on pid (packet ∷ []) ≡ cond (nat_lt 0 (length packet.payload)) (payload_of packet ∷ []) []
+alone pid packet own =
+    ap (λ (a : Bool). map payload_of (cond (a && nat_lt 0 (length packet.payload)) (packet ∷ []) [])) (eq-eqb packet.pid pid own) ∙ kept-one (nat_lt 0 (length packet.payload))
+  where
+    kept-one : (b : Bool) → map payload_of (cond (true && b) (packet ∷ []) []) ≡ cond b (payload_of packet ∷ []) []
+    kept-one true = refl
+    kept-one false = refl
+
+-- its bytes are its payload
 own-bytes : (pid : ℕ) (packet : PacketRecord) → packet.pid ≡ pid → flat_map (λ (p : Payload). p.bytes) (payloads_on pid (packet ∷ [])) ≡ packet.payload
-own-bytes pid packet own = by_test (nat_lt 0 (length packet.payload)) refl
+own-bytes pid packet own = ap (flat_map (λ (p : Payload). p.bytes)) (alone pid packet own) ∙ by_test (nat_lt 0 (length packet.payload)) refl
   where
     empty : (bytes : List ℕ) → nat_lt 0 (length bytes) ≡ false → [] ≡ bytes
     empty [] none = refl
-    empty (byte ∷ bytes) none = absurd cc
+    empty (byte ∷ bytes) none = absurd (let low = ltb-false 0 (suc (length bytes)) none in omega (arith, low))
 
-    by_test : (b : Bool) → nat_lt 0 (length packet.payload) ≡ b → flat_map (λ (p : Payload). p.bytes) (payloads_on pid (packet ∷ [])) ≡ packet.payload
-    by_test true some = rw (eq-eqb packet.pid pid own, some) (append-nil packet.payload)
-    by_test false none = rw (eq-eqb packet.pid pid own, none) (empty packet.payload none)
+    by_test : (b : Bool) → nat_lt 0 (length packet.payload) ≡ b → flat_map (λ (p : Payload). p.bytes) (cond b (payload_of packet ∷ []) []) ≡ packet.payload
+    by_test true some = append-nil packet.payload
+    by_test false none = empty packet.payload none
 
 own-start : (pid : ℕ) (packet : PacketRecord) → packet.pid ≡ pid → list_any is_start (payloads_on pid (packet ∷ [])) ≡ is_start (payload_of packet)
-own-start pid packet own = by_test (nat_lt 0 (length packet.payload)) packet.start refl refl
+own-start pid packet own = ap (list_any is_start) (alone pid packet own) ∙ by_test (nat_lt 0 (length packet.payload)) refl
   where
-    by_test : (b s : Bool) → nat_lt 0 (length packet.payload) ≡ b → packet.start ≡ s → list_any is_start (payloads_on pid (packet ∷ [])) ≡ is_start (payload_of packet)
-    by_test true true some starts = rw (eq-eqb packet.pid pid own, some, starts) refl
-    by_test true false some starts = rw (eq-eqb packet.pid pid own, some, starts) refl
-    by_test false true none starts = rw (eq-eqb packet.pid pid own, none, starts) refl
-    by_test false false none starts = rw (eq-eqb packet.pid pid own, none, starts) refl
+    or-false : (b : Bool) → (b || false) ≡ b
+    or-false true = refl
+    or-false false = refl
+
+    by_test : (b : Bool) → nat_lt 0 (length packet.payload) ≡ b → list_any is_start (cond b (payload_of packet ∷ []) []) ≡ is_start (payload_of packet)
+    by_test true some = or-false (is_start (payload_of packet))
+    by_test false none = sym (and_right packet.start (nat_lt 0 (length packet.payload)) none)
 
 any-map : {A B : Type 0} (f : A → B) (p : B → Bool) (xs : List A) → list_any p (map f xs) ≡ list_any (λ x. p (f x)) xs
 any-map f p [] = refl
 any-map f p (x ∷ xs) = ap (λ (b : Bool). p (f x) || b) (any-map f p xs)
 
-module _ (file : List ℕ) (list : List PacketRecord) (read : packets file ≡ map Some list) where
+abbrev place_of_parts : ℕ → Option ℕ → Bool → ℕ → Place
+place_of_parts n pcr start payload = record { packet = n; pcr = pcr; start = start; payload = payload }
+
+module _ (laws : PacketLaws) (file : List ℕ) (list : List PacketRecord) (read : packets file ≡ map Some list) where
   abbrev payloads_before : ℕ → ℕ → List Payload
   payloads_before pid n = map (λ (c : CarriedPayload). c.payload) (carried_before file pid n)
 
   before-are : (pid n : ℕ) → AreCounted pid list → n ≤ length list → payloads_before pid n ≡ payloads_on pid (take n list)
   before-are pid n counted within =
-      carried-are file list pid read 0 n counted (omega arith) within ∙ ap (λ (k : ℕ). payloads_on pid (take k list)) (let e : n - 0 ≡ n = omega arith in e)
+      laws.carries file list pid 0 n read counted (omega arith) within ∙ ap (λ (k : ℕ). payloads_on pid (take k list)) (let e : n - 0 ≡ n = omega arith in e)
 
   -- what a packet adds to what its PID carries is its own payload
   added : (pid n : ℕ) (packet : PacketRecord) → AreCounted pid list → slice_get list n ≡ Some packet
@@ -119,7 +148,7 @@ module _ (file : List ℕ) (list : List PacketRecord) (read : packets file ≡ m
   -- so it is the place of its number
   place-is : (pid n : ℕ) (packet : PacketRecord) → AreCounted pid list → slice_get list n ≡ Some packet → packet.pid ≡ pid → place_at file pid n ≡ place_by n packet
   place-is pid n packet counted there own =
-      let pcr : pcr_in (piece_at file n) ≡ own_pcr packet = ap (λ (found : Option PacketRecord). option_and_then own_pcr found) (stands file list n packet read there).0 in
+      let pcr : pcr_in (piece_at file n) ≡ own_pcr packet = ap (λ (found : Option PacketRecord). option_and_then own_pcr found) (laws.stands file list n packet read there).0 in
       let start : list_any (λ (c : CarriedPayload). is_start c.payload) (added_at file pid n) ≡ is_start (payload_of packet) =
       sym (any-map (λ (c : CarriedPayload). c.payload) is_start (added_at file pid n)) ∙ ap (list_any is_start) (added pid n packet counted there) ∙ own-start pid packet own in
       let bytes : flat_map (λ (c : CarriedPayload). c.payload.bytes) (added_at file pid n) ≡ packet.payload =
@@ -127,18 +156,15 @@ module _ (file : List ℕ) (list : List PacketRecord) (read : packets file ≡ m
       ∙ ap (flat_map (λ (p : Payload). p.bytes)) (added pid n packet counted there) ∙ own-bytes pid packet own in
       ap₂ (λ (p : Option ℕ) (s : Bool). place_of_parts n p s (length (flat_map (λ (c : CarriedPayload). c.payload.bytes) (added_at file pid n)))) pcr start
       ∙ ap (λ (b : List ℕ). place_of_parts n (own_pcr packet) (is_start (payload_of packet)) (length b)) bytes
-    where
-      abbrev place_of_parts : ℕ → Option ℕ → Bool → ℕ → Place
-      place_of_parts n pcr start payload = record { packet = n; pcr = pcr; start = start; payload = payload }
 
   -- all places of a PID
   pub places-are : (pid : ℕ) → AreCounted pid list → places_on file pid ≡ places_by (λ (packet : PacketRecord). packet.pid == pid) 0 list
   places-are pid counted =
-      ap (λ (n : ℕ). map (place_at file pid) (filter (is_of_pid file pid) (range_with_len 0 n))) (as_many file list read)
+      ap (λ (n : ℕ). map (place_at file pid) (filter (is_of_pid file pid) (range_with_len 0 n))) (as-many file list read)
       ∙ along (λ (packet : PacketRecord). packet.pid == pid) (is_of_pid file pid) (place_at file pid) 0 list
       (λ k packet there.
       let same : 0 + k ≡ k = omega arith in (
-        ap (is_of_pid file pid) same ∙ ap (λ (n : ℕ). n == pid) (stands file list k packet read there).1,
+        ap (is_of_pid file pid) same ∙ ap (λ (n : ℕ). n == pid) (laws.stands file list k packet read there).1,
         λ passes. ap (place_at file pid) same ∙ place-is pid k packet counted there (eqb-true packet.pid pid passes) ∙ ap (λ (n : ℕ). place_by n packet) (sym same),
       ))
 
@@ -148,11 +174,11 @@ module _ (file : List ℕ) (list : List PacketRecord) (read : packets file ≡ m
       ≡ places_by (λ (packet : PacketRecord). (packet.pid == one) || (packet.pid == other)) 0 list
   both-are one other counted also =
       let q : ℕ → Bool = λ k. is_of_pid file one k || is_of_pid file other k in
-      ap (λ (n : ℕ). map (place_of file) (filter (λ k. is_of_pid file one k || is_of_pid file other k) (range_with_len 0 n))) (as_many file list read)
+      ap (λ (n : ℕ). map (place_of file) (filter (λ k. is_of_pid file one k || is_of_pid file other k) (range_with_len 0 n))) (as-many file list read)
       ∙ along (λ (packet : PacketRecord). (packet.pid == one) || (packet.pid == other)) (λ k. is_of_pid file one k || is_of_pid file other k) (place_of file) 0 list
       (λ k packet there.
       let same : 0 + k ≡ k = omega arith in
-      let pid : packet_identifier (piece_at file k) ≡ packet.pid = (stands file list k packet read there).1 in (
+      let pid : packet_identifier (piece_at file k) ≡ packet.pid = (laws.stands file list k packet read there).1 in (
         ap (λ n. is_of_pid file one n || is_of_pid file other n) same ∙ ap (λ (n : ℕ). (n == one) || (n == other)) pid,
         λ passes.
             ap (place_of file) same ∙ ap (λ (p : ℕ). place_at file p k) pid

@@ -98,7 +98,7 @@ packets-kept (bytes ∷ more) (at ∷ times) whole many =
 -- ---- the packets of a video
 
 repeated : (full n at : ℕ) → flat_map (λ (k : ℕ). replicate k at) (replicate full n) ≡ replicate (full * n) at
-repeated zero n at = refl
+repeated zero n at = ap (λ (k : ℕ). replicate k at) (let e : 0 ≡ 0 * n = omega arith in e)
 repeated (suc full) n at =
     ap (λ (xs : List ℕ). replicate n at ++ xs) (repeated full n at) ∙ replicate-append-replicate n (full * n) at
     ∙ ap (λ (k : ℕ). replicate k at) (sym (suc-mul full n ∙ (let e : full * n + n ≡ n + full * n = omega arith in e)))

@@ -34,26 +34,26 @@ further : (pid : ℕ) (pids : List ℕ) (finding : Finding) → IsFullOrOn pids 
 further pid pids finding (inl is) = inl is
 further pid pids finding (inr (place, there, other)) = inr (suc place, there, other)
 
-behind-audios : (file : List ℕ) (slot zero_at : ℕ) (kept : KeptUnits) (audios : List AudioStream) (streams : List AuditedStream) (system : AuditedStream) (found : Option Finding)
-    → AreAudioStreams file zero_at kept audios streams → ((one : Option Finding) → FindsOn slot system one → IsFullAtMost one) → FindsFirst slot (streams ++ system ∷ []) found
+behind-audios : (file : List ℕ) (slot shown_at : ℕ) (kept : KeptUnits) (audios : List AudioStream) (streams : List AuditedStream) (system : AuditedStream) (found : Option Finding)
+    → AreAudioStreams file shown_at kept audios streams → ((one : Option Finding) → FindsOn slot system one → IsFullAtMost one) → FindsFirst slot (streams ++ system ∷ []) found
     → IsFullOrOn (pids_of_audios audios) found
-behind-audios file slot zero_at kept [] [] system None are none finds = tt
-behind-audios file slot zero_at kept [] [] system (Some finding) are none (inl finds) = inl (none (Some finding) finds)
-behind-audios file slot zero_at kept [] [] system (Some finding) are none (inr finds) = absurd (none-some finding (sym finds.1))
-behind-audios file slot zero_at kept [] (s ∷ ss) system found are none finds = absurd are
-behind-audios file slot zero_at kept (a ∷ as) [] system found are none finds = absurd are
-behind-audios file slot zero_at kept (a ∷ as) (s ∷ ss) system None are none finds = tt
-behind-audios file slot zero_at kept (a ∷ as) (s ∷ ss) system (Some finding) are none (inl finds) =
+behind-audios file slot shown_at kept [] [] system None are none finds = tt
+behind-audios file slot shown_at kept [] [] system (Some finding) are none (inl finds) = inl (none (Some finding) finds)
+behind-audios file slot shown_at kept [] [] system (Some finding) are none (inr finds) = absurd (none-some finding (sym finds.1))
+behind-audios file slot shown_at kept [] (s ∷ ss) system found are none finds = absurd are
+behind-audios file slot shown_at kept (a ∷ as) [] system found are none finds = absurd are
+behind-audios file slot shown_at kept (a ∷ as) (s ∷ ss) system None are none finds = tt
+behind-audios file slot shown_at kept (a ∷ as) (s ∷ ss) system (Some finding) are none (inl finds) =
     let own = on-own slot s finding finds in
     let pid : s.pid ≡ a.pid = ap (λ (stream : AuditedStream). stream.pid) are.0.stream_is in
     inr (0, ap (λ (p : ℕ). Some p) (sym (own.0 ∙ pid)), own.1)
-behind-audios file slot zero_at kept (a ∷ as) (s ∷ ss) system (Some finding) are none (inr finds) =
-    further a.pid (pids_of_audios as) finding (behind-audios file slot zero_at kept as ss system (Some finding) are.1 none finds.1)
+behind-audios file slot shown_at kept (a ∷ as) (s ∷ ss) system (Some finding) are none (inr finds) =
+    further a.pid (pids_of_audios as) finding (behind-audios file slot shown_at kept as ss system (Some finding) are.1 none finds.1)
 
-pub all-streams : (file : List ℕ) (slot zero_at : ℕ) (kept : KeptUnits) (video : AuditedStream) (audios : List AudioStream) (streams : List AuditedStream) (system : AuditedStream) (found : Option Finding)
-    → AreAudioStreams file zero_at kept audios streams → ((one : Option Finding) → FindsOn slot video one → IsFullAtMost one)
+pub all-streams : (file : List ℕ) (slot shown_at : ℕ) (kept : KeptUnits) (video : AuditedStream) (audios : List AudioStream) (streams : List AuditedStream) (system : AuditedStream) (found : Option Finding)
+    → AreAudioStreams file shown_at kept audios streams → ((one : Option Finding) → FindsOn slot video one → IsFullAtMost one)
     → ((one : Option Finding) → FindsOn slot system one → IsFullAtMost one) → FindsFirst slot (video ∷ streams ++ system ∷ []) found → IsFullOrOn (pids_of_audios audios) found
-all-streams file slot zero_at kept video audios streams system None are of_video of_system finds = tt
-all-streams file slot zero_at kept video audios streams system (Some finding) are of_video of_system (inl finds) = inl (of_video (Some finding) finds)
-all-streams file slot zero_at kept video audios streams system (Some finding) are of_video of_system (inr finds) =
-    behind-audios file slot zero_at kept audios streams system (Some finding) are of_system finds.1
+all-streams file slot shown_at kept video audios streams system None are of_video of_system finds = tt
+all-streams file slot shown_at kept video audios streams system (Some finding) are of_video of_system (inl finds) = inl (of_video (Some finding) finds)
+all-streams file slot shown_at kept video audios streams system (Some finding) are of_video of_system (inr finds) =
+    behind-audios file slot shown_at kept audios streams system (Some finding) are of_system finds.1

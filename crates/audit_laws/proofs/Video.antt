@@ -1,5 +1,5 @@
 -- The video of a stream that is clean by its own times, as an audit judges it: what comes to its decoder and what is removed from it is what the stream is clean for.
-use Rattle.std.proofs.Common.{◌≡◌, ℕ, zero, suc, ◌+◌, ◌-◌, ◌*◌, ◌/◌, ◌%◌, ◌<◌, ◌≤◌, ◌==◌, ◌&&◌, nat_le, nat_lt, not, Bool, true, false, cond, List, [], ◌∷◌, ◌++◌, All, length, map, filter, replicate, take, Option, Some, refl, sym, ap, ap₂, subst, ◌∙◌, arith, length-append, ℤ, pos, ◌+ℤ◌, ◌-ℤ◌, ◌*ℤ◌}
+use Rattle.std.proofs.Common.{◌≡◌, ℕ, zero, suc, ◌+◌, ◌-◌, ◌*◌, ◌/◌, ◌%◌, ◌<◌, ◌≤◌, ◌==◌, ◌&&◌, nat_le, nat_lt, not, Bool, true, false, cond, if◌then◌else◌, List, [], ◌∷◌, ◌++◌, All, length, map, filter, replicate, take, Option, Some, refl, sym, ap, ap₂, subst, ◌∙◌, arith, length-append, ℤ, pos, ◌+ℤ◌, ◌-ℤ◌, ◌*ℤ◌}
 use Rattle.std.specs.List.{AllZip, flat_map, sum_by, zip}
 use Rattle.std.specs.List.Sorted.{IsNonDecreasing, IsStrictlyIncreasing}
 use Rattle.std.proofs.lemmas.Bool.{and_right, cases_Bool, le-leb, ltb-false, ltb-true}
@@ -33,7 +33,6 @@ use Rattle.tstd_model.specs.PacketBytes.{is_data, kept}
 use Rattle.tstd_bridge.specs.Arrivals.{Headers}
 use Rattle.tstd_bridge.specs.Removals.{IsAllowed, LeaveData, gone_of_each, wanted_of_each}
 use Rattle.layer_laws.specs.Counted.{AreCounted}
-use Rattle.layer_laws.proofs.CountedPackets.{as_many, carried-are}
 use Rattle.ts_demux.specs.declared.demuxed.PesUnit.{PesUnit}
 use Rattle.ts_demux.specs.declared.pid_places.Place.{Place}
 use Rattle.ts_demux.specs.PidPlaces.{places_on}
@@ -59,53 +58,53 @@ use Rattle.audit_laws.specs.Kept.{AreKeptOf, AreUnitsOf, IsUnitOf}
 use Rattle.audit_laws.proofs.Found.{found-on}
 use Rattle.audit_laws.proofs.Arrivals.{arrivals-are, parts-many, parts_of_payload, payload-parts}
 use Rattle.audit_laws.proofs.Gathered.{LeavesData, fits-gathered, parts-gathered, plain_parts, whole-parts}
-use Rattle.audit_laws.proofs.Places.{place_by, places-are, places_by}
+use Rattle.audit_laws.proofs.Places.{PacketLaws, as-many, place_by, places-are, places_by}
 use Rattle.audit_laws.proofs.Removed.{chosen_dues, chosen_sizes, packets-kept, packets_from, queue-kept, spread, video-gone, video-wanted, wanted_with_headers}
 
 -- ---- times
 
 -- what is due when the clock first shows a time is removed then
-half : (zero_at base due at : ℕ) (turns : ℤ) → zero_at < 2576980377600 → at < 1288490188800 → due < 1288490188800
-    → pos (zero_at + at) ≡ (pos (base + due) +ℤ turns *ℤ pos 2576980377600) → (base + (2576980377600 - zero_at % 2576980377600)) % 2576980377600 < 1288490188800
-    → due + (base + (2576980377600 - zero_at % 2576980377600)) % 2576980377600 ≡ at
-half zero_at base due at turns below soon early shown low = omega (arith, ints)
+half : (shown_at base due at : ℕ) (turns : ℤ) → shown_at < 2576980377600 → at < 1288490188800 → due < 1288490188800
+    → pos (shown_at + at) ≡ (pos (base + due) +ℤ turns *ℤ pos 2576980377600) → (base + (2576980377600 - shown_at % 2576980377600)) % 2576980377600 < 1288490188800
+    → due + (base + (2576980377600 - shown_at % 2576980377600)) % 2576980377600 ≡ at
+half shown_at base due at turns below soon early shown low = omega (arith, ints)
 
-behind : (zero_at base due at : ℕ) (turns : ℤ) → zero_at < 2576980377600 → at < 1288490188800 → due < 1288490188800
-    → pos (zero_at + at) ≡ (pos (base + due) +ℤ turns *ℤ pos 2576980377600) → 1288490188800 ≤ (base + (2576980377600 - zero_at % 2576980377600)) % 2576980377600
-    → (pos due +ℤ (pos ((base + (2576980377600 - zero_at % 2576980377600)) % 2576980377600) -ℤ pos 2576980377600)) ≡ pos at
-behind zero_at base due at turns below soon early shown high = omega (arith, ints)
+behind : (shown_at base due at : ℕ) (turns : ℤ) → shown_at < 2576980377600 → at < 1288490188800 → due < 1288490188800
+    → pos (shown_at + at) ≡ (pos (base + due) +ℤ turns *ℤ pos 2576980377600) → 1288490188800 ≤ (base + (2576980377600 - shown_at % 2576980377600)) % 2576980377600
+    → (pos due +ℤ (pos ((base + (2576980377600 - shown_at % 2576980377600)) % 2576980377600) -ℤ pos 2576980377600)) ≡ pos at
+behind shown_at base due at turns below soon early shown high = omega (arith, ints)
 
-pub removed-when : (zero_at base due at : ℕ) → zero_at < 2576980377600 → at < 1288490188800 → due < 1288490188800 → IsFirstShown zero_at (pos (base + due)) at
-    → removed_at zero_at base (pos due) ≡ at
-removed-when zero_at base due at below soon early shown = by_test (nat_lt from 1288490188800) refl
+pub removed-when : (shown_at base due at : ℕ) → shown_at < 2576980377600 → at < 1288490188800 → due < 1288490188800 → IsFirstShown shown_at (pos (base + due)) at
+    → removed_at shown_at base (pos due) ≡ at
+removed-when shown_at base due at below soon early shown = by_test (nat_lt from 1288490188800) refl
   where
     from : ℕ
-    from = (base + (2576980377600 - zero_at % 2576980377600)) % 2576980377600
+    from = (base + (2576980377600 - shown_at % 2576980377600)) % 2576980377600
 
-    by_test : (b : Bool) → nat_lt ((base + (2576980377600 - zero_at % 2576980377600)) % 2576980377600) 1288490188800 ≡ b → removed_at zero_at base (pos due) ≡ at
-    by_test true is = rw is (half zero_at base due at shown.shown.0 below soon early shown.shown.1 (ltb-true ((base + (2576980377600 - zero_at % 2576980377600)) % 2576980377600) 1288490188800 is))
+    by_test : (b : Bool) → nat_lt ((base + (2576980377600 - shown_at % 2576980377600)) % 2576980377600) 1288490188800 ≡ b → removed_at shown_at base (pos due) ≡ at
+    by_test true is = rw is (half shown_at base due at shown.shown.0 below soon early shown.shown.1 (ltb-true ((base + (2576980377600 - shown_at % 2576980377600)) % 2576980377600) 1288490188800 is))
     by_test false is = rw is (ap not_before_zero
-        (behind zero_at base due at shown.shown.0 below soon early shown.shown.1 (ltb-false ((base + (2576980377600 - zero_at % 2576980377600)) % 2576980377600) 1288490188800 is)))
+        (behind shown_at base due at shown.shown.0 below soon early shown.shown.1 (ltb-false ((base + (2576980377600 - shown_at % 2576980377600)) % 2576980377600) 1288490188800 is)))
 
 -- ---- what is removed
 
 abbrev pub payload_sizes : List PesUnit → List ℕ
 payload_sizes packets = map (λ (packet : PesUnit). length (pes_payload_of packet)) packets
 
-removals-are : (zero_at base : ℕ) (units : List Removal) (packets : List PesUnit) (times : List ℕ) → zero_at < 2576980377600 → All (λ (at : ℕ). at < 1288490188800) times
-    → AreUnitsOf zero_at base units packets times
-    → (removed (map (λ (unit : Removal). record { due = removed_at zero_at base (pos unit.due); bytes = unit.bytes }) units) ≡ spread (payload_sizes packets) times)
-    × (map (λ (removal : Removal). removal.due) (map (λ (unit : Removal). record { due = removed_at zero_at base (pos unit.due); bytes = unit.bytes }) units) ≡ times)
+removals-are : (shown_at base : ℕ) (units : List Removal) (packets : List PesUnit) (times : List ℕ) → shown_at < 2576980377600 → All (λ (at : ℕ). at < 1288490188800) times
+    → AreUnitsOf shown_at base units packets times
+    → (removed (map (λ (unit : Removal). record { due = removed_at shown_at base (pos unit.due); bytes = unit.bytes }) units) ≡ spread (payload_sizes packets) times)
+    × (map (λ (removal : Removal). removal.due) (map (λ (unit : Removal). record { due = removed_at shown_at base (pos unit.due); bytes = unit.bytes }) units) ≡ times)
     × (sum_by (λ (unit : Removal). unit.bytes) units ≡ sum_by (λ (packet : PesUnit). length (pes_payload_of packet)) packets)
 unfolding removed
-removals-are zero_at base [] [] [] below soon are = (refl, refl, refl)
-removals-are zero_at base [] [] (t ∷ ts) below soon are = absurd are
-removals-are zero_at base [] (p ∷ ps) times below soon are = absurd are
-removals-are zero_at base (u ∷ us) [] times below soon are = absurd are
-removals-are zero_at base (u ∷ us) (p ∷ ps) [] below soon are = absurd are
-removals-are zero_at base (u ∷ us) (p ∷ ps) (t ∷ ts) below soon are =
-    let at : removed_at zero_at base (pos u.due) ≡ t = removed-when zero_at base u.due t below (All-head (λ (at : ℕ). at < 1288490188800) t ts soon) are.0.early are.0.when in
-    let rest = removals-are zero_at base us ps ts below (All-tail (λ (at : ℕ). at < 1288490188800) t ts soon) are.1 in (
+removals-are shown_at base [] [] [] below soon are = (refl, refl, refl)
+removals-are shown_at base [] [] (t ∷ ts) below soon are = absurd are
+removals-are shown_at base [] (p ∷ ps) times below soon are = absurd are
+removals-are shown_at base (u ∷ us) [] times below soon are = absurd are
+removals-are shown_at base (u ∷ us) (p ∷ ps) [] below soon are = absurd are
+removals-are shown_at base (u ∷ us) (p ∷ ps) (t ∷ ts) below soon are =
+    let at : removed_at shown_at base (pos u.due) ≡ t = removed-when shown_at base u.due t below (All-head (λ (at : ℕ). at < 1288490188800) t ts soon) are.0.early are.0.when in
+    let rest = removals-are shown_at base us ps ts below (All-tail (λ (at : ℕ). at < 1288490188800) t ts soon) are.1 in (
       ap₂ (λ (xs ys : List ℕ). xs ++ ys) (ap₂ (λ (n k : ℕ). replicate n (940 * k)) are.0.bytes at) rest.0,
       ap₂ (λ (x : ℕ) (xs : List ℕ). x ∷ xs) at rest.1,
       sum_by-cons (λ (unit : Removal). unit.bytes) u us ∙ ap₂ (λ (x y : ℕ). x + y) are.0.bytes rest.2
@@ -174,20 +173,21 @@ before-is : (pid from : ℕ) (list : List PacketRecord) → bytes_before (places
 before-is pid from [] = refl
 before-is pid from (packet ∷ more) = by_tests (packet.pid == pid) packet.start (nat_lt 0 (length packet.payload)) refl refl refl (before-is pid (from + 1) more)
   where
-    abbrev Rest : Type 0
-    Rest = bytes_before (places_by (λ (packet : PacketRecord). packet.pid == pid) (from + 1) more) ≡ length (front (payloads_on pid more))
-
     none : (bytes : List ℕ) → nat_lt 0 (length bytes) ≡ false → length bytes ≡ 0
     none [] is = refl
-    none (byte ∷ bytes) is = absurd cc
+    none (byte ∷ bytes) is = absurd (let low = ltb-false 0 (suc (length bytes)) is in omega (arith, low))
 
-    by_tests : (a start some : Bool) → (packet.pid == pid) ≡ a → packet.start ≡ start → nat_lt 0 (length packet.payload) ≡ some → Rest
+    no-more : 0 + length (front (payloads_on pid more)) ≡ length (front (payloads_on pid more))
+    no-more = omega arith
+
+    by_tests : (a start some : Bool) → (packet.pid == pid) ≡ a → packet.start ≡ start → nat_lt 0 (length packet.payload) ≡ some → (bytes_before (places_by (λ (packet : PacketRecord). packet.pid == pid) (from + 1) more) ≡ length (front (payloads_on pid more)))
         → bytes_before (places_by (λ (packet : PacketRecord). packet.pid == pid) from (packet ∷ more)) ≡ length (front (payloads_on pid (packet ∷ more)))
-    by_tests true true true is starts has rest = rw (is, starts, has) refl
+    by_tests true true true is starts has rest =
+        rw (is, starts, has) (ap (λ (b : Bool). length (cond b [] (packet.payload ++ front (payloads_on pid more)))) (sym has))
     by_tests true false true is starts has rest =
         rw (is, starts, has) (ap (λ (n : ℕ). length packet.payload + n) rest ∙ sym (length-append packet.payload (front (payloads_on pid more))))
-    by_tests true true false is starts has rest = rw (is, starts, has) (ap₂ (λ (x y : ℕ). x + y) (none packet.payload has) rest)
-    by_tests true false false is starts has rest = rw (is, starts, has) (ap₂ (λ (x y : ℕ). x + y) (none packet.payload has) rest)
+    by_tests true true false is starts has rest = rw (is, starts, has) (ap₂ (λ (x y : ℕ). x + y) (none packet.payload has) rest ∙ no-more)
+    by_tests true false false is starts has rest = rw (is, starts, has) (ap₂ (λ (x y : ℕ). x + y) (none packet.payload has) rest ∙ no-more)
     by_tests false start some is starts has rest = rw is rest
 
 -- ---- PES packets that are taken
@@ -235,7 +235,7 @@ none-there (x ∷ xs) is = absurd (omega (arith, is))
 
 -- ---- the whole
 
-module _ (file : List ℕ) (list : List PacketRecord) (pid program : ℕ) (row : ProgramRow) (choice : List ℕ) (pes : List PesUnit) (times : List ℕ) (headers : Headers)
+module _ (laws : PacketLaws) (file : List ℕ) (list : List PacketRecord) (pid program : ℕ) (row : ProgramRow) (choice : List ℕ) (pes : List PesUnit) (times : List ℕ) (headers : Headers)
     (is : IsVideoOf file list pid row choice pes times) (beside : AllZip (IsPayloadOf headers) (payloads_on pid list) (video_queue program row choice).packets)
     (data_behind : LeaveData headers (video_queue program row choice).packets) where
   abbrev on_pid : List CarriedPayload
@@ -246,8 +246,8 @@ module _ (file : List ℕ) (list : List PacketRecord) (pid program : ℕ) (row :
 
   payloads-are : map (λ (c : CarriedPayload). c.payload) on_pid ≡ payloads_on pid list
   payloads-are =
-      ap (λ (n : ℕ). map (λ (c : CarriedPayload). c.payload) (carried (pid_pieces file pid 0 n))) (as_many file list is.read)
-      ∙ carried-are file list pid is.read 0 (length list) is.counted (omega arith) (omega arith)
+      ap (λ (n : ℕ). map (λ (c : CarriedPayload). c.payload) (carried (pid_pieces file pid 0 n))) (as-many file list is.read)
+      ∙ laws.carries file list pid 0 (length list) is.read is.counted (omega arith) (omega arith)
       ∙ ap (λ (n : ℕ). payloads_on pid (take n list)) (let e : length list - 0 ≡ length list = omega arith in e) ∙ ap (payloads_on pid) (take-all list)
     where
       take-all : (xs : List PacketRecord) → take (length xs) xs ≡ xs
@@ -310,20 +310,20 @@ module _ (file : List ℕ) (list : List PacketRecord) (pid program : ℕ) (row :
       → arrivals_by (places_on file pid) (record { from = 0; to = to }) (taken true pes) ≡ arrivals_on pid list
   arrivals-same to within =
       let test : PacketRecord → Bool = λ (packet : PacketRecord). packet.pid == pid in
-      ap₂ (λ (places : List Place) (packets : List PesUnit). arrivals_by places (record { from = 0; to = to }) packets) (places-are file list is.read pid is.counted) taken-are
+      ap₂ (λ (places : List Place) (packets : List PesUnit). arrivals_by places (record { from = 0; to = to }) packets) (places-are laws file list is.read pid is.counted) taken-are
       ∙ ap₂ (λ (n : ℕ) (parts : List PacketPart). audited_arrivals (places_by (λ (packet : PacketRecord). packet.pid == pid) 0 list) (replicate n Overhead ++ parts))
-      (before-is pid 0 list ∙ ap (length {A = ℕ}) nothing-before) (whole-parts to 0 pes within ∙ sym parts-are ∙ sym (payload-parts pid list) ∙ sym (append-nil _))
+      (before-is pid 0 list ∙ ap (length {A = ℕ}) nothing-before) (whole-parts to 0 pes (omega (arith, within)) ∙ sym parts-are ∙ sym (payload-parts pid list) ∙ sym (append-nil _))
       ∙ arrivals-are (λ (packet : PacketRecord). packet.pid == pid) 0 list []
 
   -- what is removed from it
-  pub removals-allowed : (zero_at : ℕ) (kept_units : KeptUnits) → zero_at < 2576980377600 → All (λ (at : ℕ). at < 1288490188800) times
-      → AreUnitsOf zero_at kept_units.base kept_units.units pes times → IsAllowed (Video program row.vbv) headers (video_queue program row choice).packets (unit_removals zero_at kept_units)
-  removals-allowed zero_at kept_units below soon are =
-      let removals = removals-are zero_at kept_units.base kept_units.units pes times below soon are in
+  pub removals-allowed : (shown_at : ℕ) (kept_units : KeptUnits) → shown_at < 2576980377600 → All (λ (at : ℕ). at < 1288490188800) times
+      → AreUnitsOf shown_at kept_units.base kept_units.units pes times → IsAllowed (Video program row.vbv) headers (video_queue program row choice).packets (unit_removals shown_at kept_units)
+  removals-allowed shown_at kept_units below soon are =
+      let removals = removals-are shown_at kept_units.base kept_units.units pes times below soon are in
       let whole : All (λ (bytes : List ℕ). header_length bytes ≤ length bytes) sent_bytes = λ k d within. (let low = fits k d within in omega (arith, low)) in
       let payload-lengths : map (λ (bytes : List ℕ). length bytes - header_length bytes) sent_bytes ≡ payload_sizes pes =
       map-map (λ (bytes : List ℕ). length bytes - header_length bytes) (λ (packet : PesUnit). packet.bytes) pes ∙ sizes-less pes in
-      let same : wanted_of_each (Video program row.vbv) headers (video_queue program row choice).packets ≡ removed (unit_removals zero_at kept_units) =
+      let same : wanted_of_each (Video program row.vbv) headers (video_queue program row choice).packets ≡ removed (unit_removals shown_at kept_units) =
       sym (queue-kept program row.vbv headers (payloads_on pid list) (video_queue program row choice).packets beside)
       ∙ ap₂ (kept is_data) parts-are wanted-are ∙ packets-kept sent_bytes times whole sent-many ∙ ap (λ (counts : List ℕ). spread counts times) payload-lengths ∙ sym removals.0 in
       record {
@@ -337,20 +337,20 @@ module _ (file : List ℕ) (list : List PacketRecord) (pid program : ℕ) (row :
       sizes-less (packet ∷ more) = ap₂ (λ (x : ℕ) (xs : List ℕ). x ∷ xs) (sym (length-drop (header_length packet.bytes) packet.bytes)) (sizes-less more)
 
   -- all of its bytes are kept
-  pub bytes-kept : (zero_at : ℕ) (kept_units : KeptUnits) → zero_at < 2576980377600 → All (λ (at : ℕ). at < 1288490188800) times
-      → AreUnitsOf zero_at kept_units.base kept_units.units pes times → unit_bytes kept_units ≡ sum_by (λ (packet : PesUnit). length (pes_payload_of packet)) pes
-  bytes-kept zero_at kept_units below soon are = (removals-are zero_at kept_units.base kept_units.units pes times below soon are).2
+  pub bytes-kept : (shown_at : ℕ) (kept_units : KeptUnits) → shown_at < 2576980377600 → All (λ (at : ℕ). at < 1288490188800) times
+      → AreUnitsOf shown_at kept_units.base kept_units.units pes times → unit_bytes kept_units ≡ sum_by (λ (packet : PesUnit). length (pes_payload_of packet)) pes
+  bytes-kept shown_at kept_units below soon are = (removals-are shown_at kept_units.base kept_units.units pes times below soon are).2
 
 -- what an audit takes of it
-pub video-found : (file : List ℕ) (list : List PacketRecord) (slot pid program base : ℕ) (row : ProgramRow) (choice : List ℕ) (pes : List PesUnit) (times : List ℕ) (kept_units : KeptUnits)
+pub video-found : PacketLaws → (file : List ℕ) (list : List PacketRecord) (slot pid program base : ℕ) (row : ProgramRow) (choice : List ℕ) (pes : List PesUnit) (times : List ℕ) (kept_units : KeptUnits)
     (stream : AuditedStream) (found : Option Finding) → IsVideoOf file list pid row choice pes times → (is_clean : IsCleanOn slot pid (video_queue program row choice) list)
     → LeaveData is_clean.headers (video_queue program row choice).packets → first_sequence (joined pes) ≡ Some 0 → base < 2576980377600 → All (λ (at : ℕ). at < 1288490188800) times
     → AreKeptOf base pes times row.vbv kept_units → IsVideoStream file base kept_units pid pes stream → FindsOn slot stream found → IsFullAtMost found
-video-found file list slot pid program base row choice pes times kept_units stream found is is_clean data_behind first below soon kept_are audited finds =
+video-found laws file list slot pid program base row choice pes times kept_units stream found is is_clean data_behind first below soon kept_are audited finds =
     found-on slot stream
     (λ fault has.
     is_clean.clean (unit_removals base kept_units) fault
-    (removals-allowed file list pid program row choice pes times is_clean.headers is is_clean.payloads data_behind base kept_units below soon kept_are.units)
+    (removals-allowed laws file list pid program row choice pes times is_clean.headers is is_clean.payloads data_behind base kept_units below soon kept_are.units)
     (subst (λ (arrivals : List Arrival). IsFault slot (VideoBuffers row.vbv) arrivals (unit_removals base kept_units) fault) arrivals
     (subst (λ (vbv : ℕ). IsFault slot (VideoBuffers vbv) (arrivals_by (places_on file pid) (record { from = audited.from; to = audited.from + unit_bytes kept_units }) (taken true pes)) (unit_removals base kept_units) fault)
     kept_are.buffer (subst (λ (s : AuditedStream). IsFault slot s.kind s.arrivals s.removals fault) audited.stream_is has))))
@@ -358,11 +358,11 @@ video-found file list slot pid program base row choice pes times kept_units stre
   where
     from_zero : audited.from ≡ 0
     from_zero = same_Some audited.from 0
-        (sym audited.sequence ∙ ap (λ (packets : List PesUnit). first_sequence (joined packets)) (taken-are file list pid program row choice pes times is_clean.headers is is_clean.payloads data_behind)
+        (sym audited.sequence ∙ ap (λ (packets : List PesUnit). first_sequence (joined packets)) (taken-are laws file list pid program row choice pes times is_clean.headers is is_clean.payloads data_behind)
         ∙ first)
 
     arrivals : arrivals_by (places_on file pid) (record { from = audited.from; to = audited.from + unit_bytes kept_units }) (taken true pes) ≡ arrivals_on pid list
     arrivals =
         ap (λ (n : ℕ). arrivals_by (places_on file pid) (record { from = n; to = n + unit_bytes kept_units }) (taken true pes)) from_zero
-        ∙ arrivals-same file list pid program row choice pes times is_clean.headers is is_clean.payloads data_behind (0 + unit_bytes kept_units)
-        (let all = bytes-kept file list pid program row choice pes times is_clean.headers is is_clean.payloads data_behind base kept_units below soon kept_are.units in omega (arith, all))
+        ∙ arrivals-same laws file list pid program row choice pes times is_clean.headers is is_clean.payloads data_behind (0 + unit_bytes kept_units)
+        (let all = bytes-kept laws file list pid program row choice pes times is_clean.headers is is_clean.payloads data_behind base kept_units below soon kept_are.units in omega (arith, all))

@@ -48,9 +48,9 @@ ghost use Rattle.audit_laws.specs.Written.{IsFoundClean};
 use job_laws::programs::programs_are_read_back;
 use job_laws::streams::slots_are_rows;
 use job_stream::laws::stream_has_slots;
-use layer_laws::packets::counted_payloads_are_carried;
+use layer_laws::packets::{counted_payloads_are_carried, packets_stand_in_order};
 use output_laws::pids::packets_are_counted;
-use slot_rule::laws::{packets_stand_in_order, slots_name_the_table};
+use slot_rule::laws::{packets_stand_in_order as queues_stand_in_order, slots_name_the_table};
 use time_laws::laws::stream_carries_its_times;
 use ts_demux::laws::one_answer;
 use tstd_bridge::laws::{removals_when_wanted_are_allowed, schedules_are_clean};
@@ -62,13 +62,19 @@ pub fn clock_is_read()
         → clock_of slot (places_on file pid) ≡ Some base }
     ensures off { (file : List ℕ) (list : List PacketRecord) (slot pid base : ℕ) → packets file ≡ map Some list → AreCounted pid list → IsClock list slot pid base
         → first_off slot base (places_on file pid) ≡ None }
-{}
+{
+    packets_stand_in_order();
+    counted_payloads_are_carried();
+}
 
 /// Where the packets of PID 0 and of a map's PID are counted and bring no fault to the decoder of these sections, an audit finds none on them.
 pub fn sections_are_clean()
     ensures { (file : List ℕ) (list : List PacketRecord) (slot map_pid : ℕ) (found : Option Finding) → packets file ≡ map Some list → AreCounted pat_pid list → AreCounted map_pid list
         → ((fault : TstdFault) → IsFault slot System (section_arrivals map_pid list) [] fault → ⊥) → FindsOn slot (system_stream file map_pid) found → IsFullAtMost found }
-{}
+{
+    packets_stand_in_order();
+    counted_payloads_are_carried();
+}
 
 /// A video that is clean by the times that its stream carries has no fault in an audit that is handed its units: what comes to its decoder and what is removed
 /// from it are the same bytes at the same instants. It needs data behind each PES header in the packet that the header begins in, times within half a round of the
@@ -80,7 +86,10 @@ pub fn video_is_clean()
         → LeaveData is_clean.headers (video_queue program row choice).packets → first_sequence (joined pes) ≡ Some 0
         → base < PCR_MODULUS → All (λ at. at < PCR_MODULUS / 2) times → AreKeptOf base pes times row.vbv kept
         → IsVideoStream file base kept pid pes stream → FindsOn slot stream found → IsFullAtMost found }
-{}
+{
+    packets_stand_in_order();
+    counted_payloads_are_carried();
+}
 
 /// An audio decoder has no fault more where more bytes of the payloads that come to it are PES headers: an audit counts what a header has left for the next
 /// packet as header, a stream is clean with it counted as data.
@@ -104,7 +113,7 @@ pub fn written_streams_are_clean()
     one_list_of_versions();
     pieces_are_as_queued();
     slots_name_the_table();
-    packets_stand_in_order();
+    queues_stand_in_order();
     schedules_are_clean();
     removals_when_wanted_are_allowed();
     stream_has_slots();
@@ -114,4 +123,7 @@ pub fn written_streams_are_clean()
     packets_are_counted();
     counted_payloads_are_carried();
     one_answer();
+    clock_is_read();
+    sections_are_clean();
+    video_is_clean();
 }
