@@ -35,7 +35,7 @@ use Rattle.program_table.proofs.Rows.{HaveOneList}
 use Rattle.time_laws.specs.Carried.{CarriesTable, CarriesTimes}
 use Rattle.audit_laws.specs.Written.{IsFoundClean}
 use Rattle.audit_laws.proofs.Parsed.{IsTakenAt}
-use Rattle.audit_laws.proofs.Program.{IsProgramIn, NoFaultCounted, OneTakenOut, found-clean}
+use Rattle.audit_laws.proofs.Program.{IsProgramIn, ProgramLaws, found-clean}
 
 same-packets : (xs ys : List PacketRecord) → map Some xs ≡ map Some ys → xs ≡ ys
 same-packets [] [] same = refl
@@ -67,13 +67,13 @@ module _ (job : Job) (programs : List Program) (table : Table) (choice : List �
       (video-pieces job programs table choice versions slots made program row there (at program row there))
 
 -- A program of a job's stream has at most what an audit may find.
-pub written-clean : OneTakenOut → NoFaultCounted → (job : Job) (programs : List Program) (table : Table) (choice : List ℕ) (slots : SlotList) (of : IsTableOf job programs table)
+pub written-clean : ProgramLaws → (job : Job) (programs : List Program) (table : Table) (choice : List ℕ) (slots : SlotList) (of : IsTableOf job programs table)
     (is : IsReady job programs table choice slots of) → HaveOneList → (stream numbers : List ℕ) → IsStreamIn job programs choice slots stream → length stream ≡ 188 * slots.slots
     → ((pid : ℕ) → pid ≢ 8191 → AreCounted pid (output_packets (layout_of job programs) job.slot (pieces_of (stream_items programs of.versions choice)) slots.rows))
     → CarriesTable table choice numbers stream → (place number : ℕ) → slice_get numbers place ≡ Some number → IsTakenAt stream place number → length stream ≤ 536870912
     → All (λ (row : ProgramRow). All (λ (unit : CodedUnit). unit.due < 1288490188800) row.units) table.programs → IsFoundClean stream table.slot number
-written-clean one no_fault job programs table choice slots of is one_list stream numbers in_slots size counted carried place number there taken short soon =
-    found-clean one no_fault stream list table.slot place number row (choice_from table.programs place choice)
+written-clean laws job programs table choice slots of is one_list stream numbers in_slots size counted carried place number there taken short soon =
+    found-clean laws stream list table.slot place number row (choice_from table.programs place choice)
     (record {
       read = clean.read;
       counted = counted;

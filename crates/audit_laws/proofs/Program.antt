@@ -22,7 +22,6 @@ use Rattle.tstd_model.specs.Faults.{IsFault}
 use Rattle.tstd_bridge.specs.Removals.{LeaveData}
 use Rattle.mux_writer.specs.Layout.{map_pid, video_pid}
 use Rattle.layer_laws.specs.Counted.{AreCounted}
-use Rattle.layer_laws.proofs.CountedPackets.{as_many}
 use Rattle.ts_demux.specs.declared.demux_fault.DemuxFault.{DemuxFault}
 use Rattle.ts_demux.specs.declared.demuxed.AudioStream.{AudioStream}
 use Rattle.ts_demux.specs.declared.demuxed.Demuxed.{Demuxed}
@@ -34,7 +33,7 @@ use Rattle.elementary_streams.specs.Packets.{joined}
 use Rattle.es_units.specs.Units.{first_sequence}
 use Rattle.ts_demux.specs.PidPlaces.{places_on}
 use Rattle.stream_audit.specs.declared.audited_stream.AuditedStream.{AuditedStream}
-use Rattle.stream_audit.specs.Clock.{first_off}
+use Rattle.stream_audit.specs.Clock.{clock_of, first_off}
 use Rattle.stream_audit.specs.declared.file_clock.FoundClock.{FoundClock}
 use Rattle.stream_audit.specs.declared.finding.Finding.{Finding}
 use Rattle.stream_audit.specs.declared.kept_units.KeptUnits.{KeptUnits}
@@ -46,24 +45,32 @@ use Rattle.clean_laws.specs.Arrivals.{section_arrivals}
 use Rattle.clean_laws.specs.Clean.{IsCleanOn}
 use Rattle.parsing_laws.specs.TakenOut.{LeadsToMap}
 use Rattle.time_laws.specs.Carried.{CarriesTimes}
+use Rattle.time_laws.specs.Clock.{IsClock}
 use Rattle.time_laws.specs.Video.{AreDecoded, DecodedPicture}
 use Rattle.audit_laws.specs.Carried.{IsVideoOf}
 use Rattle.audit_laws.specs.Kept.{AreKeptOf}
-use Rattle.audit_laws.specs.Written.{IsFoundClean, IsFullOrOn}
-use Rattle.audit_laws.proofs.Clock.{HasClock, has-clock}
+use Rattle.audit_laws.specs.Found.{IsFullAtMost, IsFullOrOn}
+use Rattle.audit_laws.specs.Written.{IsFoundClean}
 use Rattle.audit_laws.proofs.Parsed.{IsTakenAt}
-use Rattle.audit_laws.proofs.Sections.{sections-found}
+use Rattle.audit_laws.proofs.Places.{as-many}
 use Rattle.audit_laws.proofs.Streams.{all-streams}
-use Rattle.audit_laws.proofs.Video.{video-found}
 
--- a file has one answer
-abbrev pub OneTakenOut : Type 0
-OneTakenOut = (file : List ℕ) (program : ℕ) (drop : List ℕ) (one other : Demuxed) → IsDemuxed file program drop one → IsDemuxed file program drop other → one ≡ other
+-- ---- the laws below, as this proof calls them
 
--- nothing is refused on a PID that is counted
-abbrev pub NoFaultCounted : Type 0
-NoFaultCounted = (file : List ℕ) (list : List PacketRecord) (pid from n : ℕ) → packets file ≡ map Some list → AreCounted pid list → from ≤ n → n < length list → is_of_pid file pid n ≡ true
-    → pid_fault (pid_pieces file pid from n) (record { at = 188 * n; bytes = piece_at file n }) ≡ None
+pub record ProgramLaws : Type 0 where
+  pub one : (file : List ℕ) (program : ℕ) (drop : List ℕ) (one other : Demuxed) → IsDemuxed file program drop one → IsDemuxed file program drop other → one ≡ other
+  pub no_fault : (file : List ℕ) (list : List PacketRecord) (pid from n : ℕ) → packets file ≡ map Some list → AreCounted pid list → from ≤ n → n < length list → is_of_pid file pid n ≡ true
+      → pid_fault (pid_pieces file pid from n) (record { at = 188 * n; bytes = piece_at file n }) ≡ None
+  pub zero_is : (file : List ℕ) (list : List PacketRecord) (slot pid base : ℕ) → packets file ≡ map Some list → AreCounted pid list → IsClock list slot pid base
+      → clock_of slot (places_on file pid) ≡ Some base
+  pub off_is : (file : List ℕ) (list : List PacketRecord) (slot pid base : ℕ) → packets file ≡ map Some list → AreCounted pid list → IsClock list slot pid base
+      → first_off slot base (places_on file pid) ≡ None
+  pub sections : (file : List ℕ) (list : List PacketRecord) (slot map_pid : ℕ) (found : Option Finding) → packets file ≡ map Some list → AreCounted 0 list → AreCounted map_pid list
+      → ((fault : TstdFault) → IsFault slot System (section_arrivals map_pid list) [] fault → ⊥) → FindsOn slot (system_stream file map_pid) found → IsFullAtMost found
+  pub video : (file : List ℕ) (list : List PacketRecord) (slot pid program base : ℕ) (row : ProgramRow) (choice : List ℕ) (pes : List PesUnit) (times : List ℕ) (kept : KeptUnits)
+      (stream : AuditedStream) (found : Option Finding) → IsVideoOf file list pid row choice pes times → (is_clean : IsCleanOn slot pid (video_queue program row choice) list)
+      → LeaveData is_clean.headers (video_queue program row choice).packets → first_sequence (joined pes) ≡ Some 0 → base < 2576980377600 → All (λ (at : ℕ). at < 1288490188800) times
+      → AreKeptOf base pes times row.vbv kept → IsVideoStream file base kept pid pes stream → FindsOn slot stream found → IsFullAtMost found
 
 -- What is known of a program of a stream.
 pub record IsProgramIn (file : List ℕ) (list : List PacketRecord) (slot place number : ℕ) (row : ProgramRow) (choice : List ℕ) : Type 0 where
@@ -90,7 +97,7 @@ head_of : List ℕ → ℕ
 head_of [] = 0
 head_of (x ∷ xs) = x
 
-module _ (one : OneTakenOut) (no_fault : NoFaultCounted) (file : List ℕ) (list : List PacketRecord) (slot place number : ℕ) (row : ProgramRow) (choice : List ℕ)
+module _ (laws : ProgramLaws) (file : List ℕ) (list : List PacketRecord) (slot place number : ℕ) (row : ProgramRow) (choice : List ℕ)
     (is : IsProgramIn file list slot place number row choice) where
   abbrev demuxed : Demuxed
   demuxed = is.times.demuxed
@@ -102,7 +109,7 @@ module _ (one : OneTakenOut) (no_fault : NoFaultCounted) (file : List ℕ) (list
   ats = map (λ (picture : DecodedPicture). picture.at) (is.times.first ∷ is.times.later)
 
   taken-same : is.taken.demuxed ≡ is.times.demuxed
-  taken-same = one file number [] is.taken.demuxed is.times.demuxed is.taken.taken_out is.times.taken_out
+  taken-same = laws.one file number [] is.taken.demuxed is.times.demuxed is.taken.taken_out is.times.taken_out
 
   pcr-pid : is.times.demuxed.map.pcr_pid ≡ video_pid place
   pcr-pid = ap (λ (d : Demuxed). d.map.pcr_pid) (sym taken-same) ∙ is.taken.pcr
@@ -121,9 +128,14 @@ module _ (one : OneTakenOut) (no_fault : NoFaultCounted) (file : List ℕ) (list
 
   -- ---- the clock
 
-  clock-found : HasClock file slot is.times.demuxed.map.pcr_pid is.times.base
-  clock-found =
-      has-clock file list slot is.times.demuxed.map.pcr_pid is.times.base is.read (subst (λ (pid : ℕ). AreCounted pid list) (sym pcr-pid) video-counted) is.times.clock
+  pcr-counted : AreCounted is.times.demuxed.map.pcr_pid list
+  pcr-counted = subst (λ (pid : ℕ). AreCounted pid list) (sym pcr-pid) video-counted
+
+  zero-found : clock_of slot (places_on file is.times.demuxed.map.pcr_pid) ≡ Some is.times.base
+  zero-found = laws.zero_is file list slot is.times.demuxed.map.pcr_pid is.times.base is.read pcr-counted is.times.clock
+
+  off-found : first_off slot is.times.base (places_on file is.times.demuxed.map.pcr_pid) ≡ None
+  off-found = laws.off_is file list slot is.times.demuxed.map.pcr_pid is.times.base is.read pcr-counted is.times.clock
 
   clock : FoundClock
   clock = record { zero = is.times.base; off = None }
@@ -142,8 +154,8 @@ module _ (one : OneTakenOut) (no_fault : NoFaultCounted) (file : List ℕ) (list
   sound-on pid counted n fault (inr (p, found, among, hits, said)) =
       let same : pid ≡ p = among-one pid p among in
       none-some found
-      (sym (no_fault file list p 0 n is.read (subst (λ (k : ℕ). AreCounted k list) same counted) hits.behind
-      (subst (λ (k : ℕ). n < k) (as_many file list is.read) hits.within) hits.of_pid) ∙ hits.fault_is)
+      (sym (laws.no_fault file list p 0 n is.read (subst (λ (k : ℕ). AreCounted k list) same counted) hits.behind
+      (subst (λ (k : ℕ). n < k) (as-many file list is.read) hits.within) hits.of_pid) ∙ hits.fault_is)
 
   map-is : IsMapPid file number (map_pid place)
   map-is = record { packet = is.times.map_pid_is.packet; index = is.times.map_pid_is.index; takes = is.times.map_pid_is.taken }
@@ -158,9 +170,9 @@ module _ (one : OneTakenOut) (no_fault : NoFaultCounted) (file : List ℕ) (list
       map_sound = sound-on (map_pid place) map-counted;
     };
     clock_is = record {
-      sound = sound-on is.times.demuxed.map.pcr_pid (subst (λ (pid : ℕ). AreCounted pid list) (sym pcr-pid) video-counted);
-      zero_is = clock-found.zero_is;
-      off_is = sym clock-found.off_is;
+      sound = sound-on is.times.demuxed.map.pcr_pid pcr-counted;
+      zero_is = zero-found;
+      off_is = sym off-found;
     };
   }
 
@@ -196,21 +208,22 @@ module _ (one : OneTakenOut) (no_fault : NoFaultCounted) (file : List ℕ) (list
   found-of kept found kept_are audited = by_demuxed audited.demuxed audited.map_pid audited.clock same map-same clock-same off-none audited.streams_are audited.first
     where
       same : audited.demuxed ≡ is.times.demuxed
-      same = one file number [] audited.demuxed is.times.demuxed audited.read.tables.taken_out is.times.taken_out
+      same = laws.one file number [] audited.demuxed is.times.demuxed audited.read.tables.taken_out is.times.taken_out
 
       map-same : audited.map_pid ≡ map_pid place
       map-same =
           let takes = audited.read.tables.map_is.takes in
           is.times.map_pid_is.only audited.read.tables.map_is.packet audited.read.tables.map_is.index audited.map_pid takes.found takes.section takes.names
 
-      own-clock : HasClock file slot audited.demuxed.map.pcr_pid is.times.base
-      own-clock = subst (λ (d : Demuxed). HasClock file slot d.map.pcr_pid is.times.base) (sym same) clock-found
-
       clock-same : audited.clock.zero ≡ is.times.base
-      clock-same = same_Some audited.clock.zero is.times.base (sym audited.read.clock_is.zero_is ∙ own-clock.zero_is)
+      clock-same =
+          same_Some audited.clock.zero is.times.base
+          (sym audited.read.clock_is.zero_is ∙ ap (λ (d : Demuxed). clock_of slot (places_on file d.map.pcr_pid)) same ∙ zero-found)
 
       off-none : audited.clock.off ≡ None
-      off-none = audited.read.clock_is.off_is ∙ ap (λ (base : ℕ). first_off slot base (places_on file audited.demuxed.map.pcr_pid)) clock-same ∙ own-clock.off_is
+      off-none =
+          audited.read.clock_is.off_is ∙ ap (λ (base : ℕ). first_off slot base (places_on file audited.demuxed.map.pcr_pid)) clock-same
+          ∙ ap (λ (d : Demuxed). first_off slot is.times.base (places_on file d.map.pcr_pid)) same ∙ off-found
 
       by_demuxed : (d : Demuxed) (pid : ℕ) (c : FoundClock) → d ≡ is.times.demuxed → pid ≡ map_pid place → c.zero ≡ is.times.base → c.off ≡ None
           → {streams : List AuditedStream} → AreStreamsOf file pid c.zero kept d streams → FindsBy slot d.map.pcr_pid c.off streams found
@@ -219,10 +232,10 @@ module _ (one : OneTakenOut) (no_fault : NoFaultCounted) (file : List ℕ) (list
           subst (λ (e : Demuxed). IsFullOrOn (map (λ (audio : AudioStream). audio.pid) e.audios) found) d-is
           (all-streams file slot c.zero kept are.video_stream d.audios are.audio_streams (system_stream file pid) found are.are_audio
           (λ found_one finds_one.
-          video-found file list slot (video_pid place) place is.times.base row choice is.times.demuxed.video ats kept are.video_stream found_one of-video is.is_clean is.data_behind
+          laws.video file list slot (video_pid place) place is.times.base row choice is.times.demuxed.video ats kept are.video_stream found_one of-video is.is_clean is.data_behind
           begins is.times.clock.below soon-shown (record { units = kept_are.units; buffer = kept_are.buffer ∙ sym is.times.buffer }) of_video finds_one)
           (λ found_one finds_one.
-          sections-found file list slot (map_pid place) found_one is.read pat-counted map-counted is.sections
+          laws.sections file list slot (map_pid place) found_one is.read pat-counted map-counted is.sections
           (subst (λ (k : ℕ). FindsOn slot (system_stream file k) found_one) pid-is finds_one))
           by_off)
         where

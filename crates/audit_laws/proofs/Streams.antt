@@ -11,8 +11,7 @@ use Rattle.stream_audit.specs.declared.finding.Finding.{Finding}
 use Rattle.stream_audit.specs.declared.kept_units.KeptUnits.{KeptUnits}
 use Rattle.stream_audit.specs.Findings.{FindsFirst, FindsOn, clean, faulty, finding_of, full, full_finding}
 use Rattle.stream_audit.specs.Streams.{AreAudioStreams}
-use Rattle.audit_laws.specs.Found.{IsFullAtMost}
-use Rattle.audit_laws.specs.Written.{IsFullOrOn}
+use Rattle.audit_laws.specs.Found.{IsFullAtMost, IsFullOrOn}
 
 -- a fault of a decoder stands on the PID of its stream, and is none of a clock reference
 of-fault : (pid : ℕ) (fault : TstdFault) → ((finding_of pid fault).pid ≡ pid) × ((finding_of pid fault).fault ≢ Pcr)
@@ -41,14 +40,14 @@ behind-audios file slot shown_at kept [] [] system None are none finds = tt
 behind-audios file slot shown_at kept [] [] system (Some finding) are none (inl finds) = inl (none (Some finding) finds)
 behind-audios file slot shown_at kept [] [] system (Some finding) are none (inr finds) = absurd (none-some finding (sym finds.1))
 behind-audios file slot shown_at kept [] (s ∷ ss) system found are none finds = absurd are
-behind-audios file slot shown_at kept (a ∷ as) [] system found are none finds = absurd are
-behind-audios file slot shown_at kept (a ∷ as) (s ∷ ss) system None are none finds = tt
-behind-audios file slot shown_at kept (a ∷ as) (s ∷ ss) system (Some finding) are none (inl finds) =
+behind-audios file slot shown_at kept (a ∷ more) [] system found are none finds = absurd are
+behind-audios file slot shown_at kept (a ∷ more) (s ∷ ss) system None are none finds = tt
+behind-audios file slot shown_at kept (a ∷ more) (s ∷ ss) system (Some finding) are none (inl finds) =
     let own = on-own slot s finding finds in
     let pid : s.pid ≡ a.pid = ap (λ (stream : AuditedStream). stream.pid) are.0.stream_is in
     inr (0, ap (λ (p : ℕ). Some p) (sym (own.0 ∙ pid)), own.1)
-behind-audios file slot shown_at kept (a ∷ as) (s ∷ ss) system (Some finding) are none (inr finds) =
-    further a.pid (pids_of_audios as) finding (behind-audios file slot shown_at kept as ss system (Some finding) are.1 none finds.1)
+behind-audios file slot shown_at kept (a ∷ more) (s ∷ ss) system (Some finding) are none (inr finds) =
+    further a.pid (pids_of_audios more) finding (behind-audios file slot shown_at kept more ss system (Some finding) are.1 none finds.1)
 
 pub all-streams : (file : List ℕ) (slot shown_at : ℕ) (kept : KeptUnits) (video : AuditedStream) (audios : List AudioStream) (streams : List AuditedStream) (system : AuditedStream) (found : Option Finding)
     → AreAudioStreams file shown_at kept audios streams → ((one : Option Finding) → FindsOn slot video one → IsFullAtMost one)

@@ -1,19 +1,14 @@
 -- What an audit finds on a program of a stream that was written (ISO/IEC 13818-1, 2.4.2).
-use Rattle.std.specs.Prelude.{◌≡◌, ◌≢◌, ◌⊎◌, ℕ, List, [], ◌∷◌, map, slice_get, Option, Some, None}
+use Rattle.std.specs.Prelude.{◌≡◌, ℕ, List, ◌∷◌, map, Option, None}
 use Rattle.ts_demux.specs.declared.demuxed.Demuxed.{Demuxed}
 use Rattle.stream_audit.specs.declared.file_clock.FoundClock.{FoundClock}
-use Rattle.stream_audit.specs.declared.finding.FaultName.TheVariants.{Full, Pcr}
 use Rattle.stream_audit.specs.declared.finding.Finding.{Finding}
 use Rattle.stream_audit.specs.declared.kept_units.KeptUnits.{KeptUnits}
 use Rattle.stream_audit.specs.Audit.{IsAudited}
 use Rattle.stream_audit.specs.Refusals.{IsProgramRead}
 use Rattle.time_laws.specs.Video.{AreDecoded, DecodedPicture}
+use Rattle.audit_laws.specs.Found.{IsFullOrOn}
 use Rattle.audit_laws.specs.Kept.{AreKeptOf}
-
--- nothing is found, or a transport buffer that isn't empty for a second, or something on one of these PIDs that isn't a clock reference
-abbrev pub IsFullOrOn : (pids : List ℕ) → Option Finding → Type 0
-IsFullOrOn pids None = Unit {0}
-IsFullOrOn pids (Some finding) = (finding.fault ≡ Full) ⊎ ((place : ℕ) × (slice_get pids place ≡ Some finding.pid) × (finding.fault ≢ Pcr))
 
 -- A program of a file is read by an audit, and none of its clock references is off. Whatever units of its pictures an audit is handed, as they are decoded by the
 -- file's own clock, it finds nothing on its video and on its sections but a transport buffer that isn't empty for a second.

@@ -6,7 +6,7 @@ use Rattle.version_source.specs.Pieces.{pieces_of, stream_items}
 use Rattle.audit_laws.specs.Written.{IsFoundClean}
 use Rattle.audit_laws.proofs.Job.{written-clean}
 use Rattle.audit_laws.proofs.Parsed.{IsTakenAt, taken-at}
-use Rattle.audit_laws.proofs.laws.written_streams_are_clean.Goals as goal
+use Rattle.audit_laws.proofs.written.written_streams_are_clean.Goals as goal
 
 pub returns : goal.returns
 returns c job contents programs table choice slots stream valid are of table_valid fits list in_slots bytes short soon place number there =
@@ -17,7 +17,16 @@ returns c job contents programs table choice slots stream valid are of table_val
     (taken-at _ 0 job.programs contents programs in_slots.versions choice
     (c.programs_are_read_back.ensures job contents programs table choice slots in_slots.versions valid are of table_valid fits list in_slots.are_versions bytes) place number there) in
     subst (λ (slot : ℕ). IsFoundClean stream slot number) of.slot
-    (written-clean c.one_answer.ensures.demuxed c.counted_payloads_are_carried.ensures.sound job programs table choice slots of
+    (written-clean
+    (record {
+      one = c.one_answer.ensures.demuxed;
+      no_fault = c.counted_payloads_are_carried.ensures.sound;
+      zero_is = c.clock_is_read.ensures.zero;
+      off_is = c.clock_is_read.ensures.off;
+      sections = c.sections_are_clean.ensures;
+      video = c.video_is_clean.ensures;
+    })
+    job programs table choice slots of
     (record {
       few = valid.few_programs;
       ready = ready;
