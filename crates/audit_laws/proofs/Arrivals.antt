@@ -1,9 +1,9 @@
 -- What the packets of a stream bring to a decoder, by an audit and by the records of the packets: the same.
-use Rattle.std.proofs.Common.{◌≡◌, ℕ, suc, ◌+◌, ◌-◌, ◌<◌, ◌≤◌, ◌==◌, ◌&&◌, ◌*◌, nat_lt, min, Bool, true, false, cond, List, [], ◌∷◌, ◌++◌, All, count_by, length, map, filter, take, drop, replicate, refl, sym, ap, ap₂, subst, ◌∙◌, arith, length-append}
-use Rattle.std.specs.List.{flat_map, sum_by}
+use Rattle.std.proofs.Common.{◌≡◌, ℕ, suc, ◌+◌, ◌-◌, ◌≤◌, ◌==◌, ◌&&◌, ◌*◌, nat_lt, min, Bool, true, false, cond, List, [], ◌∷◌, ◌++◌, count_by, length, map, filter, take, drop, replicate, refl, sym, ap, ap₂, ◌∙◌, arith, length-append}
+use Rattle.std.specs.List.{flat_map}
 use Rattle.std.proofs.lemmas.Bool.{ltb-false}
-use Rattle.std.proofs.lemmas.List.{append-nil, append_assoc, length-replicate}
-use Rattle.std.proofs.lemmas.List.Sums.{sum_by-append, sum_by-cons}
+use Rattle.std.proofs.lemmas.List.{append_assoc, length-replicate}
+use Rattle.std.proofs.lemmas.List.Sums.{sum_by-append}
 use Rattle.std.proofs.lemmas.List.Folds.{sum_by-replicate}
 use Rattle.std.proofs.Math.Seq.{drop-append_seam, take-append_seam}
 use Rattle.bit_lists.specs.Payload.{Payload}
@@ -12,9 +12,8 @@ use Rattle.ts_packets.specs.Packet.{PacketRecord}
 use Rattle.ts_packets.specs.Carried.{has_payload_on, payload_of, payloads_on}
 use Rattle.tstd_model.specs.declared.decoder_input.Arrival.{Arrival}
 use Rattle.tstd_model.specs.declared.decoder_input.PacketPart.{PacketPart}
-use Rattle.tstd_model.specs.declared.decoder_input.PacketPart.TheVariants.{Overhead, PesHeader, Data}
+use Rattle.tstd_model.specs.declared.decoder_input.PacketPart.TheVariants.{PesHeader, Data}
 use Rattle.tstd_model.specs.PacketBytes.{is_payload}
-use Rattle.ts_demux.specs.declared.pid_places.Place.{Place}
 use Rattle.stream_audit.specs.PesBytes.{arrivals_of as audited_arrivals, is_header}
 use Rattle.stream_audit.specs.Streams.{section_arrival}
 use Rattle.clean_laws.specs.Arrivals.{arrivals_of, header_bytes}

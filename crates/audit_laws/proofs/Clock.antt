@@ -1,7 +1,7 @@
 -- The clock that an audit reads of a stream whose PCRs are those of one clock: it is that clock, and no PCR is off.
-use Rattle.std.proofs.Common.{◌≡◌, ℕ, zero, suc, ◌+◌, ◌-◌, ◌*◌, ◌/◌, ◌%◌, ◌<◌, ◌≤◌, ◌==◌, min, nat_lt, Bool, true, false, cond, List, [], ◌∷◌, All, length, map, Option, Some, None, refl, sym, ap, subst, ◌∙◌, arith}
+use Rattle.std.proofs.Common.{◌≡◌, ℕ, zero, suc, ◌+◌, ◌-◌, ◌*◌, ◌%◌, ◌<◌, ◌==◌, nat_lt, Bool, true, false, cond, List, [], ◌∷◌, All, length, map, Option, Some, None, refl, sym, ap, ◌∙◌, arith}
 use Rattle.std.specs.Prelude.{slice_get}
-use Rattle.std.specs.List.{filter_map, find}
+use Rattle.std.specs.List.{find}
 use Rattle.std.specs.Option.{option_map}
 use Rattle.std.proofs.lemmas.Bool.{eq-eqb, eqb-true}
 use Rattle.std.proofs.lemmas.List.Elements.{All-cons, All-head, All-nil, All-tail}
@@ -10,7 +10,6 @@ use Rattle.ts_packets.specs.Packet.{PacketRecord}
 use Rattle.ts_packets.specs.TransportStream.{packets}
 use Rattle.pcr_writer.specs.PcrPacket.{arrival_ticks, pcr_at}
 use Rattle.layer_laws.specs.Counted.{AreCounted}
-use Rattle.ts_demux.specs.declared.pid_places.Place.{Place}
 use Rattle.ts_demux.specs.PidPlaces.{places_on}
 use Rattle.stream_audit.specs.Clock.{PlacedPcr, apart, clock_of, first_off, is_off, pcrs_of, ticks_from}
 use Rattle.time_laws.specs.Clock.{HasPcrIn, IsClock}
@@ -92,7 +91,7 @@ some-of pid from (suc k) pcr (first ∷ more) packet there own has none = by_tes
         rest (sym same ∙ nothing)
     by_pcr (Some value) is rest nothing =
         let same : pcrs_of (place_by from first ∷ places_by (λ (p : PacketRecord). p.pid == pid) (from + 1) more)
-            ≡ record { packet = from; pcr = value } ∷ pcrs_of (places_by (λ (p : PacketRecord). p.pid == pid) (from + 1) more) = rw is refl in
+        ≡ record { packet = from; pcr = value } ∷ pcrs_of (places_by (λ (p : PacketRecord). p.pid == pid) (from + 1) more) = rw is refl in
         let size : suc (length (pcrs_of (places_by (λ (p : PacketRecord). p.pid == pid) (from + 1) more))) ≡ 0 = ap (length {A = PlacedPcr}) (sym same ∙ nothing) in
         omega (arith, size)
 

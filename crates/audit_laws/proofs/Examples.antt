@@ -1,14 +1,12 @@
 -- Worked examples of units that are a stream's own.
-use Rattle.std.proofs.Common.{◌≡◌, ℕ, ◌+◌, [], ◌∷◌, Some, None, refl, arith, pos}
+use Rattle.std.proofs.Common.{◌≡◌, ◌+◌, [], ◌∷◌, Some, refl, arith, pos}
 use Rattle.bit_lists.specs.Fields.{bit, bits}
-use Rattle.tstd_model.specs.declared.decoder_input.Removal.{Removal}
 use Rattle.ts_demux.specs.declared.demuxed.PesUnit.{PesUnit}
 use Rattle.stream_audit.specs.declared.finding.FaultName.TheVariants.{Full, Late}
-use Rattle.stream_audit.specs.declared.finding.Finding.{Finding}
 use Rattle.stream_audit.specs.Removals.{removed_at}
 use Rattle.time_laws.specs.Clock.{IsFirstShown}
 use Rattle.audit_laws.specs.Found.{IsFullAtMost}
-use Rattle.audit_laws.specs.Kept.{AreUnitsOf, IsUnitOf}
+use Rattle.audit_laws.specs.Kept.{AreUnitsOf}
 
 -- a PES packet with a header of nine bytes and two bytes behind it
 abbrev packet : PesUnit

@@ -1,5 +1,5 @@
 -- What is found on a stream whose decoder has no fault.
-use Rattle.std.proofs.Common.{◌≡◌, ℕ, Option, Some, None, refl, sym, subst}
+use Rattle.std.proofs.Common.{ℕ, Option, refl, sym, subst}
 use Rattle.tstd_model.specs.declared.fault.TstdFault.{TstdFault}
 use Rattle.tstd_model.specs.Faults.{IsFault}
 use Rattle.stream_audit.specs.declared.audited_stream.AuditedStream.{AuditedStream}

@@ -1,18 +1,18 @@
 -- The bytes of the PES packets of a stream are those of its payloads, where each header is within the payload that it begins in.
-use Rattle.std.proofs.Common.{◌≡◌, ℕ, zero, suc, ◌+◌, ◌-◌, ◌<◌, ◌≤◌, nat_le, nat_lt, min, Bool, true, false, cond, ◌&&◌, List, [], ◌∷◌, ◌++◌, All, length, map, drop, replicate, refl, sym, ap, ap₂, subst, ◌∙◌, arith, length-append}
+use Rattle.std.proofs.Common.{◌≡◌, ℕ, zero, suc, ◌+◌, ◌-◌, ◌<◌, ◌≤◌, nat_le, nat_lt, min, Bool, true, false, cond, ◌&&◌, List, [], ◌∷◌, ◌++◌, All, length, map, replicate, refl, sym, ap, ap₂, subst, ◌∙◌, arith, length-append}
 use Rattle.std.specs.List.{flat_map, range_with_len, sum_by}
 use Rattle.std.proofs.lemmas.Bool.{le-leb, lt-ltb, ltb-false}
-use Rattle.std.proofs.lemmas.List.{append-nil, append_assoc, length-drop, replicate-append-replicate}
+use Rattle.std.proofs.lemmas.List.{append_assoc, length-drop, replicate-append-replicate}
 use Rattle.std.proofs.lemmas.List.Elements.{All-cons, All-head, All-nil, All-tail}
 use Rattle.std.proofs.lemmas.List.Sums.{sum_by-cons}
-use Rattle.bit_lists.specs.Payload.{CarriedPayload, Payload, is_start}
+use Rattle.bit_lists.specs.Payload.{CarriedPayload, is_start}
 use Rattle.pes_units.specs.PesHeader.{header_length}
 use Rattle.pes_units.specs.PesPackets.{Gathered, gathered, up_to_start}
 use Rattle.tstd_model.specs.declared.decoder_input.PacketPart.{PacketPart}
-use Rattle.tstd_model.specs.declared.decoder_input.PacketPart.TheVariants.{Overhead, PesHeader, Data}
+use Rattle.tstd_model.specs.declared.decoder_input.PacketPart.TheVariants.{PesHeader, Data}
 use Rattle.ts_demux.specs.declared.demuxed.PesUnit.{PesUnit}
 use Rattle.elementary_streams.specs.Packets.{pes_payload_of as pes_payload}
-use Rattle.stream_audit.specs.PesBytes.{KeptSpan, part_at, parts_of_packets}
+use Rattle.stream_audit.specs.PesBytes.{part_at, parts_of_packets}
 use Rattle.clean_laws.specs.Arrivals.{header_bytes}
 use Rattle.pes_walk.proofs.Headers.{header_more}
 use Rattle.audit_laws.proofs.Arrivals.{parts_of_payload}
@@ -94,7 +94,7 @@ parts-gathered (first ∷ more) all = by_test (is_start first.payload) refl (par
         let low : header_bytes (record { start = true; bytes = first.payload.bytes }) < length first.payload.bytes =
         subst (λ (s : Bool). header_bytes (record { start = s; bytes = first.payload.bytes }) < length first.payload.bytes) start fits in
         let here : parts_of_payload first.payload ++ (replicate (length (up_to_start more)) Data ++ plain_parts (bytes_of (gathered more)))
-            ≡ plain_parts ((first.payload.bytes ++ up_to_start more) ∷ bytes_of (gathered more)) =
+        ≡ plain_parts ((first.payload.bytes ++ up_to_start more) ∷ bytes_of (gathered more)) =
         sym (append_assoc (parts_of_payload first.payload) (replicate (length (up_to_start more)) Data) (plain_parts (bytes_of (gathered more))))
         ∙ ap (λ (xs : List PacketPart). (xs ++ replicate (length (up_to_start more)) Data) ++ plain_parts (bytes_of (gathered more))) own
         ∙ ap (λ (xs : List PacketPart). xs ++ plain_parts (bytes_of (gathered more))) (begun first.payload.bytes (up_to_start more) low) in
@@ -103,7 +103,7 @@ parts-gathered (first ∷ more) all = by_test (is_start first.payload) refl (par
         let own : parts_of_payload first.payload ≡ replicate (length first.payload.bytes) Data = going first.payload.start first.payload.bytes is in
         let size : length (first.payload.bytes ++ up_to_start more) ≡ length first.payload.bytes + length (up_to_start more) = length-append first.payload.bytes (up_to_start more) in
         let here : replicate (length first.payload.bytes) Data ++ (replicate (length (up_to_start more)) Data ++ plain_parts (bytes_of (gathered more)))
-            ≡ replicate (length (first.payload.bytes ++ up_to_start more)) Data ++ plain_parts (bytes_of (gathered more)) =
+        ≡ replicate (length (first.payload.bytes ++ up_to_start more)) Data ++ plain_parts (bytes_of (gathered more)) =
         sym (append_assoc (replicate (length first.payload.bytes) Data) (replicate (length (up_to_start more)) Data) (plain_parts (bytes_of (gathered more))))
         ∙ ap (λ (xs : List PacketPart). xs ++ plain_parts (bytes_of (gathered more)))
         (replicate-append-replicate (length first.payload.bytes) (length (up_to_start more)) Data ∙ ap (λ (n : ℕ). replicate n Data) (sym size)) in

@@ -3,7 +3,7 @@ use Rattle.std.proofs.Common.{◌≡◌, ℕ, zero, suc, ◌+◌, ◌-◌, ◌*�
 use Rattle.std.specs.Prelude.{filter, slice_get}
 use Rattle.std.specs.List.{AllZip, sum_by}
 use Rattle.std.proofs.lemmas.List.{append_assoc, replicate-append-replicate}
-use Rattle.std.proofs.lemmas.Option.{none-some, same_Some}
+use Rattle.std.proofs.lemmas.Option.{same_Some}
 use Rattle.tstd_model.specs.declared.decoder_input.Arrival.{Arrival}
 use Rattle.tstd_model.specs.declared.decoder_input.BufferKind.TheVariants.{Audio}
 use Rattle.tstd_model.specs.declared.decoder_input.PacketPart.{PacketPart}
@@ -12,10 +12,10 @@ use Rattle.tstd_model.specs.declared.decoder_input.Removal.{Removal}
 use Rattle.tstd_model.specs.declared.fault.TstdFault.{TstdFault}
 use Rattle.tstd_model.specs.declared.fault.TstdFault.TheVariants.{Overflow, Late, Old}
 use Rattle.tstd_model.specs.Instants.{came_before, departures}
-use Rattle.tstd_model.specs.PacketBytes.{HasHeaderWithin, arrives, arrives_in, is_payload, kept, parts, parts_of}
+use Rattle.tstd_model.specs.PacketBytes.{arrives, arrives_in, is_payload, kept, parts, parts_of}
 use Rattle.tstd_model.specs.Decoder.{DecoderBuffer, buffers, leave_tb, payload_passes, removed}
 use Rattle.audit_laws.specs.Headers.{HasNoLessHeader, HaveNoLessHeaders}
-use Rattle.tstd_model.specs.Faults.{FindsLess, HeldPastLimit, IsFault, Overflows}
+use Rattle.tstd_model.specs.Faults.{IsFault}
 
 -- ---- bytes beside bytes
 

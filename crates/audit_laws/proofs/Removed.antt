@@ -1,7 +1,6 @@
 -- The bytes that removals take of a video, by the packets of its queue and by its PES packets: the same bytes at the same times.
-use Rattle.std.proofs.Common.{◌≡◌, ℕ, zero, suc, ◌+◌, ◌-◌, ◌*◌, ◌/◌, ◌<◌, ◌≤◌, List, [], ◌∷◌, ◌++◌, All, length, map, replicate, refl, sym, ap, ap₂, subst, ◌∙◌, arith, length-append}
-use Rattle.std.specs.List.{AllZip, enumerate_from, flat_map, sum_by, zip}
-use Rattle.std.specs.Prelude.{sum}
+use Rattle.std.proofs.Common.{◌≡◌, ℕ, zero, suc, ◌+◌, ◌-◌, ◌*◌, ◌/◌, ◌≤◌, List, [], ◌∷◌, ◌++◌, All, length, map, replicate, refl, sym, ap, ap₂, ◌∙◌, arith, length-append}
+use Rattle.std.specs.List.{AllZip, enumerate_from, flat_map, zip}
 use Rattle.std.proofs.lemmas.Grind.{flat_map-append}
 use Rattle.std.proofs.lemmas.List.{append-nil, length-replicate, replicate-append-replicate}
 use Rattle.std.proofs.Math.Nat.{suc-mul}
@@ -10,11 +9,10 @@ use Rattle.std.proofs.lemmas.List.Folds.{flat_map-map}
 use Rattle.bit_lists.specs.Payload.{Payload}
 use Rattle.pes_units.specs.PesHeader.{header_length}
 use Rattle.version_table.specs.declared.table.Unit.{Unit as CodedUnit}
-use Rattle.version_table.specs.declared.table.ProgramRow.{ProgramRow}
 use Rattle.version_table.specs.Choice.{version_at}
 use Rattle.slot_rule.specs.declared.queue_kind.QueueKind.TheVariants.{Video}
 use Rattle.slot_rule.specs.declared.queued_packet.QueuedPacket.{QueuedPacket}
-use Rattle.slot_rule.specs.Queues.{payloads, unit_packets, video_queue}
+use Rattle.slot_rule.specs.Queues.{payloads, unit_packets}
 use Rattle.tstd_model.specs.declared.decoder_input.PacketPart.{PacketPart}
 use Rattle.tstd_model.specs.declared.decoder_input.PacketPart.TheVariants.{PesHeader, Data}
 use Rattle.tstd_model.specs.PacketBytes.{is_data, kept}

@@ -1,12 +1,11 @@
 -- What is found first on the streams of a program whose video and sections have nothing but a transport buffer that isn't empty for a second.
-use Rattle.std.proofs.Common.{◌≡◌, ◌≢◌, ◌⊎◌, ℕ, zero, suc, List, [], ◌∷◌, ◌++◌, map, Option, Some, None, refl, sym, ap, subst, ◌∙◌, inl, inr}
-use Rattle.std.specs.Prelude.{slice_get}
+use Rattle.std.proofs.Common.{◌≡◌, ◌≢◌, ℕ, suc, List, [], ◌∷◌, ◌++◌, map, Option, Some, None, refl, sym, ap, subst, ◌∙◌, inl, inr}
 use Rattle.std.proofs.lemmas.Option.{none-some, same_Some}
 use Rattle.tstd_model.specs.declared.fault.TstdFault.{TstdFault}
 use Rattle.tstd_model.specs.declared.fault.TstdFault.TheVariants.{Overflow, Late, Old}
 use Rattle.ts_demux.specs.declared.demuxed.AudioStream.{AudioStream}
 use Rattle.stream_audit.specs.declared.audited_stream.AuditedStream.{AuditedStream}
-use Rattle.stream_audit.specs.declared.finding.FaultName.TheVariants.{Full, Pcr}
+use Rattle.stream_audit.specs.declared.finding.FaultName.TheVariants.{Pcr}
 use Rattle.stream_audit.specs.declared.finding.Finding.{Finding}
 use Rattle.stream_audit.specs.declared.kept_units.KeptUnits.{KeptUnits}
 use Rattle.stream_audit.specs.Findings.{FindsFirst, FindsOn, clean, faulty, finding_of, full, full_finding}

@@ -1,11 +1,11 @@
 -- The video of a stream that is clean by its own times, as an audit judges it: what comes to its decoder and what is removed from it is what the stream is clean for.
-use Rattle.std.proofs.Common.{◌≡◌, ℕ, zero, suc, ◌+◌, ◌-◌, ◌*◌, ◌/◌, ◌%◌, ◌<◌, ◌≤◌, ◌==◌, ◌&&◌, nat_le, nat_lt, not, Bool, true, false, cond, if◌then◌else◌, List, [], ◌∷◌, ◌++◌, All, length, map, filter, replicate, take, Option, Some, refl, sym, ap, ap₂, subst, ◌∙◌, arith, length-append, ℤ, pos, ◌+ℤ◌, ◌-ℤ◌, ◌*ℤ◌}
+use Rattle.std.proofs.Common.{◌≡◌, ℕ, suc, ◌+◌, ◌-◌, ◌*◌, ◌%◌, ◌<◌, ◌≤◌, ◌==◌, ◌&&◌, nat_lt, not, Bool, true, false, cond, if◌then◌else◌, List, [], ◌∷◌, ◌++◌, All, length, map, replicate, take, Option, Some, refl, sym, ap, ap₂, subst, ◌∙◌, arith, length-append, ℤ, pos, ◌+ℤ◌, ◌-ℤ◌, ◌*ℤ◌}
 use Rattle.std.specs.List.{AllZip, flat_map, sum_by, zip}
 use Rattle.std.specs.List.Sorted.{IsNonDecreasing, IsStrictlyIncreasing}
-use Rattle.std.proofs.lemmas.Bool.{and_right, cases_Bool, le-leb, ltb-false, ltb-true}
+use Rattle.std.proofs.lemmas.Bool.{and_right, le-leb, ltb-false, ltb-true}
 use Rattle.std.proofs.lemmas.Int.{ints}
 use Rattle.std.proofs.lemmas.List.{append-nil, length-drop, length-map, length-replicate}
-use Rattle.std.proofs.lemmas.List.Elements.{All-cons, All-head, All-map, All-nil, All-tail}
+use Rattle.std.proofs.lemmas.List.Elements.{All-cons, All-head, All-nil, All-tail}
 use Rattle.std.proofs.lemmas.List.Folds.{flat_map-map}
 use Rattle.std.proofs.lemmas.List.Sums.{sum_by-cons}
 use Rattle.std.proofs.lemmas.Option.{same_Some}
@@ -14,7 +14,7 @@ use Rattle.bit_lists.specs.Payload.{CarriedPayload, Payload, is_start}
 use Rattle.pes_units.specs.PesHeader.{header_length, is_header_whole}
 use Rattle.pes_units.specs.PesPackets.{Gathered, gathered, is_cut, is_dropped, up_to_start}
 use Rattle.ts_packets.specs.Packet.{PacketRecord}
-use Rattle.ts_packets.specs.Carried.{carried, has_payload_on, payload_of, payloads_on}
+use Rattle.ts_packets.specs.Carried.{carried, payloads_on}
 use Rattle.ts_packets.specs.TransportStream.{packets, pid_pieces, piece_count}
 use Rattle.version_table.proofs.Rising.{Adjacent, adjacent_steady, rising_adjacent}
 use Rattle.version_table.specs.declared.table.Unit.{Unit as CodedUnit}
@@ -31,35 +31,31 @@ use Rattle.tstd_model.specs.declared.decoder_input.Removal.{Removal}
 use Rattle.tstd_model.specs.Decoder.{removed}
 use Rattle.tstd_model.specs.PacketBytes.{is_data, kept}
 use Rattle.tstd_bridge.specs.Arrivals.{Headers}
-use Rattle.tstd_bridge.specs.Removals.{IsAllowed, LeaveData, gone_of_each, wanted_of_each}
-use Rattle.layer_laws.specs.Counted.{AreCounted}
+use Rattle.tstd_bridge.specs.Removals.{IsAllowed, LeaveData, wanted_of_each}
 use Rattle.ts_demux.specs.declared.demuxed.PesUnit.{PesUnit}
 use Rattle.ts_demux.specs.declared.pid_places.Place.{Place}
 use Rattle.ts_demux.specs.PidPlaces.{places_on}
-use Rattle.ts_demux.specs.Demux.{units_in}
 use Rattle.elementary_streams.specs.Packets.{joined, pes_payload_of, taken}
 use Rattle.stream_audit.specs.declared.audited_stream.AuditedStream.{AuditedStream}
 use Rattle.stream_audit.specs.declared.finding.Finding.{Finding}
 use Rattle.stream_audit.specs.declared.kept_units.KeptUnits.{KeptUnits}
 use Rattle.stream_audit.specs.Findings.{FindsOn}
-use Rattle.stream_audit.specs.Clock.{shift}
-use Rattle.stream_audit.specs.PesBytes.{arrivals_of as audited_arrivals, bytes_before, parts_of_packets as parts_of_pes}
+use Rattle.stream_audit.specs.PesBytes.{arrivals_of as audited_arrivals, bytes_before}
 use Rattle.stream_audit.specs.Removals.{not_before_zero, removed_at, unit_bytes, unit_removals}
 use Rattle.stream_audit.specs.Streams.{IsVideoStream, arrivals_by}
 use Rattle.es_units.specs.Units.{first_sequence}
-use Rattle.tstd_model.specs.declared.fault.TstdFault.{TstdFault}
 use Rattle.tstd_model.specs.Faults.{IsFault}
 use Rattle.clean_laws.specs.Arrivals.{arrivals_on, header_bytes}
 use Rattle.clean_laws.specs.Clean.{IsCleanOn, IsPayloadOf}
 use Rattle.time_laws.specs.Clock.{IsFirstShown}
 use Rattle.audit_laws.specs.Carried.{IsVideoOf}
 use Rattle.audit_laws.specs.Found.{IsFullAtMost}
-use Rattle.audit_laws.specs.Kept.{AreKeptOf, AreUnitsOf, IsUnitOf}
+use Rattle.audit_laws.specs.Kept.{AreKeptOf, AreUnitsOf}
 use Rattle.audit_laws.proofs.Found.{found-on}
 use Rattle.audit_laws.proofs.Arrivals.{arrivals-are, parts-many, parts_of_payload, payload-parts}
 use Rattle.audit_laws.proofs.Gathered.{LeavesData, fits-gathered, parts-gathered, plain_parts, whole-parts}
-use Rattle.audit_laws.proofs.Places.{PacketLaws, as-many, place_by, places-are, places_by}
-use Rattle.audit_laws.proofs.Removed.{chosen_dues, chosen_sizes, packets-kept, packets_from, queue-kept, spread, video-gone, video-wanted, wanted_with_headers}
+use Rattle.audit_laws.proofs.Places.{PacketLaws, as-many, places-are, places_by}
+use Rattle.audit_laws.proofs.Removed.{chosen_dues, chosen_sizes, packets-kept, queue-kept, spread, video-gone, video-wanted, wanted_with_headers}
 
 -- ---- times
 
@@ -281,8 +277,15 @@ module _ (laws : PacketLaws) (file : List ℕ) (list : List PacketRecord) (pid p
   zipped =
       let sized = ap (length {A = ℕ}) is.sizes in
       let dued = ap (length {A = ℕ}) is.dues in
-      omega (arith, sized, dued, is.many, length-map (zip row.units choice) (λ (one : CodedUnit × ℕ). (version_at one.0 one.1).bytes), length-map pes (λ (packet : PesUnit). length packet.bytes),
-      length-map row.units (λ (unit : CodedUnit). unit.due))
+      omega (
+        arith,
+        sized,
+        dued,
+        is.many,
+        length-map (zip row.units choice) (λ (one : CodedUnit × ℕ). (version_at one.0 one.1).bytes),
+        length-map pes (λ (packet : PesUnit). length packet.bytes),
+        length-map row.units (λ (unit : CodedUnit). unit.due),
+      )
 
   sizes-are : chosen_sizes (zip row.units choice) ≡ map (λ (bytes : List ℕ). length bytes) sent_bytes
   sizes-are = is.sizes ∙ sym (map-map (λ (bytes : List ℕ). length bytes) (λ (packet : PesUnit). packet.bytes) pes)

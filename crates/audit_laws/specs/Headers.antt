@@ -1,5 +1,5 @@
 -- Packets of which no less is PES header.
-use Rattle.std.specs.Prelude.{◌≡◌, ℕ, ◌≤◌, List}
+use Rattle.std.specs.Prelude.{◌≡◌, ◌≤◌, List}
 use Rattle.std.specs.List.{AllZip}
 use Rattle.tstd_model.specs.declared.decoder_input.Arrival.{Arrival}
 
