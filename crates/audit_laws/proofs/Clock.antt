@@ -49,6 +49,10 @@ abbrev pub GiveClock : (slot pid base from : ℕ) → List PacketRecord → Type
 GiveClock slot pid base from list =
     (k pcr : ℕ) (packet : PacketRecord) → slice_get list k ≡ Some packet → packet.pid ≡ pid → own_pcr packet ≡ Some pcr → pcr ≡ pcr_at base (from + k) slot
 
+-- the packets of a PID, the first packet with a number
+abbrev on_pid : (pid from : ℕ) → List PacketRecord → List Place
+on_pid pid from list = places_by (λ (packet : PacketRecord). packet.pid == pid) from list
+
 abbrev references_of : (pid from : ℕ) → List PacketRecord → List PlacedPcr
 references_of pid from list = pcrs_of (places_by (λ (packet : PacketRecord). packet.pid == pid) from list)
 
@@ -60,14 +64,14 @@ all-of slot pid base from (packet ∷ more) give =
     (λ k pcr other there own has. give (suc k) pcr other there own has ∙ ap (λ (n : ℕ). pcr_at base n slot) (let e : from + suc k ≡ from + 1 + k = omega arith in e)))
   where
     by_pcr : (pcr : Option ℕ) → own_pcr packet ≡ pcr → packet.pid ≡ pid → All (IsOf slot base) (references_of pid (from + 1) more)
-        → All (IsOf slot base) (pcrs_of (place_by from packet ∷ places_by (λ (p : PacketRecord). p.pid == pid) (from + 1) more))
+        → All (IsOf slot base) (pcrs_of (place_by from packet ∷ on_pid pid (from + 1) more))
     by_pcr None has own rest = rw has rest
     by_pcr (Some pcr) has own rest = rw has
         (All-cons (IsOf slot base) (record { packet = from; pcr = pcr }) (references_of pid (from + 1) more)
         (give 0 pcr packet refl own has ∙ ap (λ (n : ℕ). pcr_at base n slot) (let e : from + 0 ≡ from = omega arith in e)) rest)
 
     by_test : (b : Bool) → (packet.pid == pid) ≡ b → All (IsOf slot base) (references_of pid (from + 1) more)
-        → All (IsOf slot base) (pcrs_of (cond (packet.pid == pid) (place_by from packet ∷ places_by (λ (p : PacketRecord). p.pid == pid) (from + 1) more) (places_by (λ (p : PacketRecord). p.pid == pid) (from + 1) more)))
+        → All (IsOf slot base) (pcrs_of (cond (packet.pid == pid) (place_by from packet ∷ on_pid pid (from + 1) more) (on_pid pid (from + 1) more)))
     by_test true is rest = rw is (by_pcr (own_pcr packet) refl (eqb-true packet.pid pid is) rest)
     by_test false is rest = rw is rest
 
@@ -85,27 +89,29 @@ some-of pid from zero pcr (first ∷ more) packet there own has none =
     absurd (omega (arith, size))
 some-of pid from (suc k) pcr (first ∷ more) packet there own has none = by_test (first.pid == pid) refl (some-of pid (from + 1) k pcr more packet there own has) none
   where
-    by_pcr : (found : Option ℕ) → own_pcr first ≡ found → (pcrs_of (places_by (λ (p : PacketRecord). p.pid == pid) (from + 1) more) ≡ [] → ⊥) → pcrs_of (place_by from first ∷ places_by (λ (p : PacketRecord). p.pid == pid) (from + 1) more) ≡ [] → ⊥
+    by_pcr : (found : Option ℕ) → own_pcr first ≡ found → (pcrs_of (on_pid pid (from + 1) more) ≡ [] → ⊥)
+        → pcrs_of (place_by from first ∷ on_pid pid (from + 1) more) ≡ [] → ⊥
     by_pcr None is rest nothing =
-        let same : pcrs_of (place_by from first ∷ places_by (λ (p : PacketRecord). p.pid == pid) (from + 1) more) ≡ pcrs_of (places_by (λ (p : PacketRecord). p.pid == pid) (from + 1) more) = rw is refl in
+        let same : pcrs_of (place_by from first ∷ on_pid pid (from + 1) more)
+        ≡ pcrs_of (on_pid pid (from + 1) more) = rw is refl in
         rest (sym same ∙ nothing)
     by_pcr (Some value) is rest nothing =
-        let same : pcrs_of (place_by from first ∷ places_by (λ (p : PacketRecord). p.pid == pid) (from + 1) more)
-        ≡ record { packet = from; pcr = value } ∷ pcrs_of (places_by (λ (p : PacketRecord). p.pid == pid) (from + 1) more) = rw is refl in
-        let size : suc (length (pcrs_of (places_by (λ (p : PacketRecord). p.pid == pid) (from + 1) more))) ≡ 0 = ap (length {A = PlacedPcr}) (sym same ∙ nothing) in
+        let same : pcrs_of (place_by from first ∷ on_pid pid (from + 1) more)
+        ≡ record { packet = from; pcr = value } ∷ pcrs_of (on_pid pid (from + 1) more) = rw is refl in
+        let size : suc (length (pcrs_of (on_pid pid (from + 1) more))) ≡ 0 = ap (length {A = PlacedPcr}) (sym same ∙ nothing) in
         omega (arith, size)
 
-    by_value : (b : Bool) → (pcrs_of (places_by (λ (p : PacketRecord). p.pid == pid) (from + 1) more) ≡ [] → ⊥)
-        → pcrs_of (cond b (place_by from first ∷ places_by (λ (p : PacketRecord). p.pid == pid) (from + 1) more) (places_by (λ (p : PacketRecord). p.pid == pid) (from + 1) more)) ≡ [] → ⊥
+    by_value : (b : Bool) → (pcrs_of (on_pid pid (from + 1) more) ≡ [] → ⊥)
+        → pcrs_of (cond b (place_by from first ∷ on_pid pid (from + 1) more) (on_pid pid (from + 1) more)) ≡ [] → ⊥
     by_value true rest left = by_pcr (own_pcr first) refl rest left
     by_value false rest left = rest left
 
-    by_test : (b : Bool) → (first.pid == pid) ≡ b → (pcrs_of (places_by (λ (p : PacketRecord). p.pid == pid) (from + 1) more) ≡ [] → ⊥)
-        → pcrs_of (cond (first.pid == pid) (place_by from first ∷ places_by (λ (p : PacketRecord). p.pid == pid) (from + 1) more) (places_by (λ (p : PacketRecord). p.pid == pid) (from + 1) more)) ≡ [] → ⊥
+    by_test : (b : Bool) → (first.pid == pid) ≡ b → (pcrs_of (on_pid pid (from + 1) more) ≡ [] → ⊥)
+        → pcrs_of (cond (first.pid == pid) (place_by from first ∷ on_pid pid (from + 1) more) (on_pid pid (from + 1) more)) ≡ [] → ⊥
     by_test b is rest nothing =
         by_value b rest
-        (sym (ap (λ (c : Bool). pcrs_of (cond c (place_by from first ∷ places_by (λ (p : PacketRecord). p.pid == pid) (from + 1) more)
-        (places_by (λ (p : PacketRecord). p.pid == pid) (from + 1) more))) is) ∙ nothing)
+        (sym (ap (λ (c : Bool). pcrs_of (cond c (place_by from first ∷ on_pid pid (from + 1) more)
+        (on_pid pid (from + 1) more))) is) ∙ nothing)
 
 -- ---- the clock
 
@@ -119,7 +125,8 @@ pub record HasClock (file : List ℕ) (slot pid base : ℕ) : Type 0 where
   pub zero_is : clock_of slot (places_on file pid) ≡ Some base
   pub off_is : first_off slot base (places_on file pid) ≡ None
 
-module _ (laws : PacketLaws) (file : List ℕ) (list : List PacketRecord) (slot pid base : ℕ) (read : packets file ≡ map Some list) (counted : AreCounted pid list) (clock : IsClock list slot pid base) where
+module _ (laws : PacketLaws) (file : List ℕ) (list : List PacketRecord) (slot pid base : ℕ) (read : packets file
+    ≡ map Some list) (counted : AreCounted pid list) (clock : IsClock list slot pid base) where
   give : GiveClock slot pid base 0 list
   give = λ k pcr packet there own has.
       clock.each k pcr (record { packet = packet; there = there; pid_is = own; pcr_is = has }) ∙ ap (λ (n : ℕ). pcr_at base n slot) (let e : k ≡ 0 + k = omega arith in e)

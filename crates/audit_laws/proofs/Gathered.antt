@@ -1,5 +1,6 @@
 -- The bytes of the PES packets of a stream are those of its payloads, where each header is within the payload that it begins in.
-use Rattle.std.proofs.Common.{◌≡◌, ℕ, zero, suc, ◌+◌, ◌-◌, ◌<◌, ◌≤◌, nat_le, nat_lt, min, Bool, true, false, cond, ◌&&◌, List, [], ◌∷◌, ◌++◌, All, length, map, replicate, refl, sym, ap, ap₂, subst, ◌∙◌, arith, length-append}
+use Rattle.std.proofs.Common.{◌≡◌, ℕ, zero, suc, ◌+◌, ◌-◌, ◌<◌, ◌≤◌, nat_le, nat_lt, min, Bool, true, false, cond, ◌&&◌}
+use Rattle.std.proofs.Common.{List, [], ◌∷◌, ◌++◌, All, length, map, replicate, refl, sym, ap, ap₂, subst, ◌∙◌, arith, length-append}
 use Rattle.std.specs.List.{flat_map, range_with_len, sum_by}
 use Rattle.std.proofs.lemmas.Bool.{le-leb, lt-ltb, ltb-false}
 use Rattle.std.proofs.lemmas.List.{append_assoc, length-drop, replicate-append-replicate}
@@ -84,7 +85,8 @@ parts-gathered (first ∷ more) all = by_test (is_start first.payload) refl (par
     starts true own is = refl
     starts false own is = absurd cc
 
-    by_test : (b : Bool) → is_start first.payload ≡ b → (flat_map (λ (c : CarriedPayload). parts_of_payload c.payload) more ≡ replicate (length (up_to_start more)) Data ++ plain_parts (bytes_of (gathered more)))
+    by_test : (b : Bool) → is_start first.payload ≡ b
+        → (flat_map (λ (c : CarriedPayload). parts_of_payload c.payload) more ≡ replicate (length (up_to_start more)) Data ++ plain_parts (bytes_of (gathered more)))
         → parts_of_payload first.payload ++ flat_map (λ (c : CarriedPayload). parts_of_payload c.payload) more
         ≡ replicate (length (up_to_start (first ∷ more))) Data ++ plain_parts (bytes_of (gathered (first ∷ more)))
     by_test true is rest =

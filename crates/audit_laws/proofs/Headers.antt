@@ -111,7 +111,8 @@ data-there [] (y ∷ ys) byte are there = absurd are
 data-there (x ∷ xs) [] byte are there = absurd are
 data-there (x ∷ xs) (y ∷ ys) byte are there = by_test (is_payload x) (is_payload y) are.0.payload (λ k. data-there xs ys k are.1) byte there
   where
-    by_test : (a b : Bool) → a ≡ b → ((k : ℕ) → slice_get (filter is_payload xs) k ≡ Some Data → slice_get (filter is_payload ys) k ≡ Some Data) → (byte : ℕ) → slice_get (cond a (x ∷ filter is_payload xs) (filter is_payload xs)) byte ≡ Some Data
+    by_test : (a b : Bool) → a ≡ b → ((k : ℕ) → slice_get (filter is_payload xs) k ≡ Some Data → slice_get (filter is_payload ys) k ≡ Some Data) → (byte : ℕ)
+        → slice_get (cond a (x ∷ filter is_payload xs) (filter is_payload xs)) byte ≡ Some Data
         → slice_get (cond b (y ∷ filter is_payload ys) (filter is_payload ys)) byte ≡ Some Data
     by_test true true same rest zero found = ap (λ (part : PacketPart). Some part) (are.0.is_data (same_Some x Data found))
     by_test true true same rest (suc k) found = rest k found

@@ -41,12 +41,14 @@ same-packets : (xs ys : List PacketRecord) → map Some xs ≡ map Some ys → x
 same-packets [] [] same = refl
 same-packets [] (y ∷ ys) same = absurd cc
 same-packets (x ∷ xs) [] same = absurd cc
-same-packets (x ∷ xs) (y ∷ ys) same = let head : Some x ≡ Some y = cc in let tail : map Some xs ≡ map Some ys = cc in ap₂ (λ (z : PacketRecord) (zs : List PacketRecord). z ∷ zs) (same_Some x y head) (same-packets xs ys tail)
+same-packets (x ∷ xs) (y ∷ ys) same = let head : Some x ≡ Some y = cc in let tail : map Some xs
+    ≡ map Some ys = cc in ap₂ (λ (z : PacketRecord) (zs : List PacketRecord). z ∷ zs) (same_Some x y head) (same-packets xs ys tail)
 
 no_row : ProgramRow
 no_row = record { vbv = 0; units = []; audios = [] }
 
-module _ (job : Job) (programs : List Program) (table : Table) (choice : List ℕ) (versions : List (List (List UnitVersion))) (slots : SlotList) (made : IsMade job programs table choice versions slots) where
+module _ (job : Job) (programs : List Program) (table : Table) (choice : List ℕ) (versions : List (List (List UnitVersion)))
+    (slots : SlotList) (made : IsMade job programs table choice versions slots) where
   at : (program : ℕ) (row : ProgramRow) → slice_get table.programs program ≡ Some row → ProgramAt programs versions choice table.programs program row
   at program row =
       subst (λ (rows : List ProgramRow). slice_get rows program ≡ Some row → ProgramAt programs versions choice rows program row) (sym made.rows_are)

@@ -52,7 +52,8 @@ first-is es units (Some at) is cut =
     let same : spans at (cuts_behind es at) (length es) ≡ placed_units 0 units = ap (λ (u : Units). u.cuts) (same_Some _ _ (sym found ∙ cut)) in
     is ∙ ap (λ (k : ℕ). Some k) (units-begin units at (cuts_behind es at) (length es) same)
 
-one-taken : (file content : List ℕ) (place : ℕ) (job : ProgramJob) (program_map : ProgramMap) (sent : List SentUnit) → ParsesToProgram file content job (with_output_pids place job.number program_map) sent
+one-taken : (file content : List ℕ) (place : ℕ) (job : ProgramJob) (program_map : ProgramMap) (sent : List SentUnit)
+    → ParsesToProgram file content job (with_output_pids place job.number program_map) sent
     → IsTakenAt file place job.number
 one-taken file content place job program_map sent parses = record {
   demuxed = parses.demuxed;

@@ -39,7 +39,8 @@ data-kept (suc n) at = ap (λ (xs : List ℕ). at ∷ xs) (data-kept n at)
 -- of bytes that begin with a header the others are kept
 behind-header : (h n at : ℕ) → h ≤ n → kept is_data (replicate h PesHeader ++ replicate (n - h) Data) (replicate n at) ≡ replicate (n - h) at
 behind-header h n at le =
-    ap (kept is_data (replicate h PesHeader ++ replicate (n - h) Data)) (ap (λ (k : ℕ). replicate k at) (let e : n ≡ h + (n - h) = omega (arith, le) in e) ∙ sym (replicate-append-replicate h (n - h) at))
+    ap (kept is_data (replicate h PesHeader ++ replicate (n - h) Data)) (ap (λ (k : ℕ). replicate k at) (let e : n ≡ h + (n - h) = omega (arith, le) in e)
+    ∙ sym (replicate-append-replicate h (n - h) at))
     ∙ kept-append is_data (replicate h PesHeader) (replicate (n - h) Data) (replicate h at) (replicate (n - h) at) (length-replicate h PesHeader ∙ sym (length-replicate h at))
     ∙ ap₂ (λ (xs ys : List ℕ). xs ++ ys) (header-kept h at) (data-kept (n - h) at)
 

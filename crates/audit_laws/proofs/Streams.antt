@@ -32,8 +32,8 @@ further : (pid : ℕ) (pids : List ℕ) (finding : Finding) → IsFullOrOn pids 
 further pid pids finding (inl is) = inl is
 further pid pids finding (inr (place, there, other)) = inr (suc place, there, other)
 
-behind-audios : (file : List ℕ) (slot shown_at : ℕ) (kept : KeptUnits) (audios : List AudioStream) (streams : List AuditedStream) (system : AuditedStream) (found : Option Finding)
-    → AreAudioStreams file shown_at kept audios streams → ((one : Option Finding) → FindsOn slot system one → IsFullAtMost one) → FindsFirst slot (streams ++ system ∷ []) found
+behind-audios : (file : List ℕ) (slot shown_at : ℕ) (kept : KeptUnits) (audios : List AudioStream) (streams : List AuditedStream)
+    (system : AuditedStream) (found : Option Finding) → AreAudioStreams file shown_at kept audios streams → ((one : Option Finding) → FindsOn slot system one → IsFullAtMost one) → FindsFirst slot (streams ++ system ∷ []) found
     → IsFullOrOn (pids_of_audios audios) found
 behind-audios file slot shown_at kept [] [] system None are none finds = tt
 behind-audios file slot shown_at kept [] [] system (Some finding) are none (inl finds) = inl (none (Some finding) finds)
@@ -48,8 +48,8 @@ behind-audios file slot shown_at kept (a ∷ more) (s ∷ ss) system (Some findi
 behind-audios file slot shown_at kept (a ∷ more) (s ∷ ss) system (Some finding) are none (inr finds) =
     further a.pid (pids_of_audios more) finding (behind-audios file slot shown_at kept more ss system (Some finding) are.1 none finds.1)
 
-pub all-streams : (file : List ℕ) (slot shown_at : ℕ) (kept : KeptUnits) (video : AuditedStream) (audios : List AudioStream) (streams : List AuditedStream) (system : AuditedStream) (found : Option Finding)
-    → AreAudioStreams file shown_at kept audios streams → ((one : Option Finding) → FindsOn slot video one → IsFullAtMost one)
+pub all-streams : (file : List ℕ) (slot shown_at : ℕ) (kept : KeptUnits) (video : AuditedStream) (audios : List AudioStream) (streams : List AuditedStream)
+    (system : AuditedStream) (found : Option Finding) → AreAudioStreams file shown_at kept audios streams → ((one : Option Finding) → FindsOn slot video one → IsFullAtMost one)
     → ((one : Option Finding) → FindsOn slot system one → IsFullAtMost one) → FindsFirst slot (video ∷ streams ++ system ∷ []) found → IsFullOrOn (pids_of_audios audios) found
 all-streams file slot shown_at kept video audios streams system None are of_video of_system finds = tt
 all-streams file slot shown_at kept video audios streams system (Some finding) are of_video of_system (inl finds) = inl (of_video (Some finding) finds)

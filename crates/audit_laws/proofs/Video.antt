@@ -1,5 +1,6 @@
 -- The video of a stream that is clean by its own times, as an audit judges it: what comes to its decoder and what is removed from it is what the stream is clean for.
-use Rattle.std.proofs.Common.{◌≡◌, ℕ, suc, ◌+◌, ◌-◌, ◌*◌, ◌%◌, ◌<◌, ◌≤◌, ◌==◌, ◌&&◌, nat_lt, not, Bool, true, false, cond, if◌then◌else◌, List, [], ◌∷◌, ◌++◌, All, length, map, replicate, take, Option, Some, refl, sym, ap, ap₂, subst, ◌∙◌, arith, length-append, ℤ, pos, ◌+ℤ◌, ◌-ℤ◌, ◌*ℤ◌}
+use Rattle.std.proofs.Common.{◌≡◌, ℕ, suc, ◌+◌, ◌-◌, ◌*◌, ◌%◌, ◌<◌, ◌≤◌, ◌==◌, ◌&&◌, nat_lt, not, Bool, true, false, cond, if◌then◌else◌, List, [], ◌∷◌}
+use Rattle.std.proofs.Common.{◌++◌, All, length, map, replicate, take, Option, Some, refl, sym, ap, ap₂, subst, ◌∙◌, arith, length-append, ℤ, pos, ◌+ℤ◌, ◌-ℤ◌, ◌*ℤ◌}
 use Rattle.std.specs.List.{AllZip, flat_map, sum_by, zip}
 use Rattle.std.specs.List.Sorted.{IsNonDecreasing, IsStrictlyIncreasing}
 use Rattle.std.proofs.lemmas.Bool.{and_right, le-leb, ltb-false, ltb-true}
@@ -176,7 +177,8 @@ before-is pid from (packet ∷ more) = by_tests (packet.pid == pid) packet.start
     no-more : 0 + length (front (payloads_on pid more)) ≡ length (front (payloads_on pid more))
     no-more = omega arith
 
-    by_tests : (a start some : Bool) → (packet.pid == pid) ≡ a → packet.start ≡ start → nat_lt 0 (length packet.payload) ≡ some → (bytes_before (places_by (λ (packet : PacketRecord). packet.pid == pid) (from + 1) more) ≡ length (front (payloads_on pid more)))
+    by_tests : (a start some : Bool) → (packet.pid == pid) ≡ a → packet.start ≡ start → nat_lt 0 (length packet.payload) ≡ some
+        → (bytes_before (places_by (λ (packet : PacketRecord). packet.pid == pid) (from + 1) more) ≡ length (front (payloads_on pid more)))
         → bytes_before (places_by (λ (packet : PacketRecord). packet.pid == pid) from (packet ∷ more)) ≡ length (front (payloads_on pid (packet ∷ more)))
     by_tests true true true is starts has rest =
         rw (is, starts, has) (ap (λ (b : Bool). length (cond b [] (packet.payload ++ front (payloads_on pid more)))) (sym has))
@@ -345,7 +347,8 @@ module _ (laws : PacketLaws) (file : List ℕ) (list : List PacketRecord) (pid p
   bytes-kept shown_at kept_units below soon are = (removals-are shown_at kept_units.base kept_units.units pes times below soon are).2
 
 -- what an audit takes of it
-pub video-found : PacketLaws → (file : List ℕ) (list : List PacketRecord) (slot pid program base : ℕ) (row : ProgramRow) (choice : List ℕ) (pes : List PesUnit) (times : List ℕ) (kept_units : KeptUnits)
+pub video-found : PacketLaws
+    → (file : List ℕ) (list : List PacketRecord) (slot pid program base : ℕ) (row : ProgramRow) (choice : List ℕ) (pes : List PesUnit) (times : List ℕ) (kept_units : KeptUnits)
     (stream : AuditedStream) (found : Option Finding) → IsVideoOf file list pid row choice pes times → (is_clean : IsCleanOn slot pid (video_queue program row choice) list)
     → LeaveData is_clean.headers (video_queue program row choice).packets → first_sequence (joined pes) ≡ Some 0 → base < 2576980377600 → All (λ (at : ℕ). at < 1288490188800) times
     → AreKeptOf base pes times row.vbv kept_units → IsVideoStream file base kept_units pid pes stream → FindsOn slot stream found → IsFullAtMost found
@@ -355,13 +358,15 @@ video-found laws file list slot pid program base row choice pes times kept_units
     is_clean.clean (unit_removals base kept_units) fault
     (removals-allowed laws file list pid program row choice pes times is_clean.headers is is_clean.payloads data_behind base kept_units below soon kept_are.units)
     (subst (λ (arrivals : List Arrival). IsFault slot (VideoBuffers row.vbv) arrivals (unit_removals base kept_units) fault) arrivals
-    (subst (λ (vbv : ℕ). IsFault slot (VideoBuffers vbv) (arrivals_by (places_on file pid) (record { from = audited.from; to = audited.from + unit_bytes kept_units }) (taken true pes)) (unit_removals base kept_units) fault)
+    (subst (λ (vbv : ℕ). IsFault slot (VideoBuffers vbv) (arrivals_by (places_on file pid) (record { from = audited.from; to = audited.from + unit_bytes kept_units }) (taken true pes))
+    (unit_removals base kept_units) fault)
     kept_are.buffer (subst (λ (s : AuditedStream). IsFault slot s.kind s.arrivals s.removals fault) audited.stream_is has))))
     found finds
   where
     from_zero : audited.from ≡ 0
     from_zero = same_Some audited.from 0
-        (sym audited.sequence ∙ ap (λ (packets : List PesUnit). first_sequence (joined packets)) (taken-are laws file list pid program row choice pes times is_clean.headers is is_clean.payloads data_behind)
+        (sym audited.sequence
+        ∙ ap (λ (packets : List PesUnit). first_sequence (joined packets)) (taken-are laws file list pid program row choice pes times is_clean.headers is is_clean.payloads data_behind)
         ∙ first)
 
     arrivals : arrivals_by (places_on file pid) (record { from = audited.from; to = audited.from + unit_bytes kept_units }) (taken true pes) ≡ arrivals_on pid list

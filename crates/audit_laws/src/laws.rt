@@ -54,8 +54,8 @@ pub fn sections_are_clean()
 }
 
 /// A video that is clean by the times that its stream carries has no fault in an audit that is handed its units: what comes to its decoder and what is removed
-/// from it are the same bytes at the same instants. It needs data behind each PES header in the packet that the header begins in, times within half a round of the
-/// clock, and a sequence header at the video's first byte.
+/// from it are the same bytes at the same instants. It needs data behind each PES header in the packet that the header begins in, times within half a round of
+/// the clock, and a sequence header at the video's first byte.
 pub fn video_is_clean()
     ensures { (file : List ℕ) (list : List PacketRecord) (slot pid program base : ℕ) (row : ProgramRow) (choice : List ℕ) (pes : List PesUnit) (times : List ℕ) (kept : KeptUnits)
         (stream : AuditedStream) (found : Option Finding)
