@@ -10,6 +10,7 @@ use Rattle.ts_packets.specs.Packet.{PacketRecord}
 use Rattle.ts_packets.specs.TransportStream.{packets}
 use Rattle.pcr_writer.specs.PcrPacket.{arrival_ticks, pcr_at}
 use Rattle.layer_laws.specs.Counted.{AreCounted}
+use Rattle.ts_demux.specs.declared.pid_places.Place.{Place}
 use Rattle.ts_demux.specs.PidPlaces.{places_on}
 use Rattle.stream_audit.specs.Clock.{PlacedPcr, apart, clock_of, first_off, is_off, pcrs_of, ticks_from}
 use Rattle.time_laws.specs.Clock.{HasPcrIn, IsClock}

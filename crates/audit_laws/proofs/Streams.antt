@@ -33,7 +33,8 @@ further pid pids finding (inl is) = inl is
 further pid pids finding (inr (place, there, other)) = inr (suc place, there, other)
 
 behind-audios : (file : List ℕ) (slot shown_at : ℕ) (kept : KeptUnits) (audios : List AudioStream) (streams : List AuditedStream)
-    (system : AuditedStream) (found : Option Finding) → AreAudioStreams file shown_at kept audios streams → ((one : Option Finding) → FindsOn slot system one → IsFullAtMost one) → FindsFirst slot (streams ++ system ∷ []) found
+    (system : AuditedStream) (found : Option Finding) → AreAudioStreams file shown_at kept audios streams
+    → ((one : Option Finding) → FindsOn slot system one → IsFullAtMost one) → FindsFirst slot (streams ++ system ∷ []) found
     → IsFullOrOn (pids_of_audios audios) found
 behind-audios file slot shown_at kept [] [] system None are none finds = tt
 behind-audios file slot shown_at kept [] [] system (Some finding) are none (inl finds) = inl (none (Some finding) finds)
