@@ -22,7 +22,6 @@ use Rattle.command_words.specs.Task.{AsksOnly}
 use Rattle.command_words.proofs.Counted.{asks_one}
 use Rattle.command_words.proofs.Performed.{performs_uncalled, wants_uncalled}
 use Rattle.audit_command.specs.AuditCommand.{HoldsAudited, IsAuditOf, IsAuditRefused, IsStoppedFor, audit_task, kept_units, refusal_of}
-use Rattle.audit_command.specs.AuditCommand.IsAuditRefused as refusals
 use Rattle.audit_command.specs.Private.Audited.{EndsByAudit, clean, found, stopped}
 
 -- what a shelf holds, its told files hold
@@ -58,7 +57,7 @@ refused_for : (told : Option Files) (file : List ℕ) (number slot : ℕ) (conte
     → HoldsAudited told file number slot content program → IsAuditStopped content number slot (kept_units program) stop → fault.program ≡ 0
     → refusal_of stop ≡ Refused fault.kind fault.at → IsAuditRefused told file number slot fault
 refused_for told file number slot content program stop fault holds is first says =
-    refusals.stopped (record { first = first; content = content; program = program; holds = holds; stop = stop; stopped = is; refusal = says })
+    IsAuditRefused.stopped (record { first = first; content = content; program = program; holds = holds; stop = stop; stopped = is; refusal = says })
 
 stopped_ends : (file : List ℕ) (number slot : ℕ) (facts : ShelfFacts) (content : List ℕ) (program : Program) (ended : Ended) (stop : AuditStop) (fault : SourceFault)
     → HoldsAudited facts.files file number slot content program → IsAuditStopped content number slot (kept_units program) stop → fault.program ≡ 0

@@ -1,3 +1,4 @@
 mod Auditable
 mod AuditEnds
 mod OneStatus
+mod ReadLaws

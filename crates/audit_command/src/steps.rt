@@ -24,11 +24,7 @@ use stream_audit::{AuditStop, Finding, audit};
 use version_source::laws::programs_can_be_sent;
 
 /// Does the work of `audit FILE PROGRAM SLOT`; none for want of memory. No file is changed.
-pub fn audit_file<K: Shelf>(
-    alloc: Global,
-    words: &AuditWords<'_>,
-    shelf: &mut K,
-) -> Option<Ended>
+pub fn audit_file<K: Shelf>(alloc: Global, words: &AuditWords<'_>, shelf: &mut K) -> Option<Ended>
     requires { words.now.slot ≤ SLOT_MOST }
     ensures { PerformsOn K.files K.counts K.asked K.since_fault shelf.old shelf.new (audit_task_of words.now) result }
 {
@@ -59,13 +55,7 @@ fn audit_read(alloc: Global, words: &AuditWords<'_>, read: AloneProgram) -> Opti
     let Ok(kept) = kept_units(alloc, program) else {
         return None;
     };
-    match audit(
-        alloc,
-        content.as_slice(),
-        words.program,
-        words.slot,
-        &kept,
-    ) {
+    match audit(alloc, content.as_slice(), words.program, words.slot, &kept) {
         Ok(None) => end_with(alloc, Status::Ok, &Report::AuditClean),
         Ok(Some(finding)) => end_found(alloc, finding),
         Err(stop) => end_stopped(alloc, stop),

@@ -1,12 +1,12 @@
-//! Takes a program out of a transport stream, so that its instructions can be counted and its streams be compared
+//! Takes a program out of a transport stream or a program stream, so that its instructions can be counted and its streams be compared
 //! (bench/README.md).
 //!
-//! The words are what is done, the stream's file, the program's number, and for `video` and `audio` the file that is written:
-//! `read` reads the file alone, `demux` takes the program out too, `video` writes its video behind that, `audio` its first
+//! The words are what is done, the stream's file, the program's number, or `ps` of a program stream, and for `video` and `audio` the file that
+//! is written: `read` reads the file alone, `demux` takes the program out too, `video` writes its video behind that, `audio` its first
 //! audio stream. What is written are the bytes of the PES packets behind their headers, joined. It prints how many PES
 //! packets and bytes the stream has.
 use pes_units::PesHeader;
-use std::alloc::Global;
+use program_stream::split;
 use std::io::{ErrorKind, Write};
 use std::rt::Files;
 use std::{fs, io};
@@ -15,18 +15,14 @@ use ts_demux::{Demuxed, PesUnit, demux};
 /// Does what the words say.
 pub fn work(rt: &HostRuntime, words: &[String]) -> io::Result<()> {
     let [what, from, number, behind @ ..] = words else {
-        return println!(rt; "bench_streams demux read|demux|video|audio STREAM PROGRAM [OUT]");
-    };
-    let Ok(program) = number.as_str().parse::<u16>() else {
-        return println!(rt; "no number of a program");
+        return println!(rt; "bench_streams demux read|demux|video|audio STREAM PROGRAM|ps [OUT]");
     };
     let file = fs::read(rt, from.as_str())?;
     if what.as_str() == "read" {
         return println!(rt; "{} bytes", file.len());
     }
-    let demuxed = match demux(rt.alloc(), file.as_slice(), program, &[]) {
-        Ok(demuxed) => demuxed,
-        Err(fault) => return println!(rt; "{fault}"),
+    let Some(demuxed) = take_out(rt, file.as_slice(), number.as_str())? else {
+        return Ok(());
     };
     let video = what.as_str() != "audio";
     let units = units_of(&demuxed, video);
@@ -34,6 +30,30 @@ pub fn work(rt: &HostRuntime, words: &[String]) -> io::Result<()> {
     match behind.first() {
         Some(to) => write_units(&mut fs::create(rt, to.as_str())?, units, video),
         None => Ok(()),
+    }
+}
+
+/// The streams of a program of a transport stream, or of a program stream; none where it is refused, which is printed.
+fn take_out(rt: &HostRuntime, file: &[u8], number: &str) -> io::Result<Option<Demuxed>> {
+    if number == "ps" {
+        return match split(rt.alloc(), file, &[]) {
+            Ok((demuxed, _cut)) => Ok(Some(demuxed)),
+            Err(fault) => {
+                println!(rt; "{fault}")?;
+                Ok(None)
+            }
+        };
+    }
+    let Ok(program) = number.parse::<u16>() else {
+        println!(rt; "no number of a program")?;
+        return Ok(None);
+    };
+    match demux(rt.alloc(), file, program, &[]) {
+        Ok(demuxed) => Ok(Some(demuxed)),
+        Err(fault) => {
+            println!(rt; "{fault}")?;
+            Ok(None)
+        }
     }
 }
 

@@ -1,4 +1,5 @@
-//! Drivers that measure and compare over streams: a program taken out of a transport stream, programs read with their times, and output streams written (bench/README.md).
+//! Drivers that measure and compare over streams: a program taken out of a transport stream or a program stream, programs read with their times,
+//! and output streams written (bench/README.md).
 //!
 //! The first word is the driver's name; each prints how it is called where no words are behind that.
 #![tactic(auto)]

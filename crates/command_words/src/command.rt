@@ -297,12 +297,7 @@ fn parse_probe<'a>(
 }
 
 /// The words `audit FILE PROGRAM SLOT`, where four words are these.
-fn parse_audit<'a>(
-    verb: &str,
-    file: &'a str,
-    program: &str,
-    slot: &str,
-) -> Option<AuditWords<'a>>
+fn parse_audit<'a>(verb: &str, file: &'a str, program: &str, slot: &str) -> Option<AuditWords<'a>>
     ensures { IsAuditSaid (verb.now ∷ file.now ∷ program.now ∷ slot.now ∷ []) result }
 {
     if verb != "audit" || file.is_empty() {

@@ -11,8 +11,8 @@ mod report;
 mod status;
 
 pub use command::{
-    AuditWords, CheckFiles, CheckPlanFiles, FitFiles, GenWords, ImpossibleFiles, Parsed, PlanFiles, ProbeWords,
-    RunFiles, decimal_number, parse,
+    AuditWords, CheckFiles, CheckPlanFiles, FitFiles, GenWords, ImpossibleFiles, Parsed, PlanFiles,
+    ProbeWords, RunFiles, decimal_number, parse,
 };
 pub use ended::{Ended, end_missing, end_refused_source, end_unread, end_unwritten, end_with};
 pub use report::{cert_report, miss_report, refusal_report};

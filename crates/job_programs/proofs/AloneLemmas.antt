@@ -9,7 +9,6 @@ use Rattle.program_reader.specs.declared.program.Program.{Program}
 use Rattle.program_reader.specs.declared.program_fault.ProgramFault.TheVariants as faults
 use Rattle.program_reader.specs.declared.program_fault.SourceKind.{SourceKind}
 use Rattle.program_reader.specs.Programs.{IsProgramOfFile, IsProgramRefused}
-use Rattle.program_reader.specs.Programs.IsProgramRefused as of_file
 use Rattle.job_programs.specs.declared.alone.AloneProgram.{AloneProgram}
 use Rattle.job_programs.specs.declared.source_fault.ProgramsFault.{ProgramsFault}
 use Rattle.job_programs.specs.declared.source_fault.ProgramsFault.TheVariants.{Refused, Failed, Missing, OutOfMemory}
@@ -25,20 +24,20 @@ use Rattle.job_programs.proofs.ProbeLaws.{same-content}
 -- ---- what is read of a file
 
 whole : (front content : List ℕ) → front ≡ take (FILE_BYTES_MOST + 1) content → length front ≤ FILE_BYTES_MOST → front ≡ content
-whole front content is few = is-whole 0 FILE_BYTES_MOST front content refl is few
+whole front content is few = is-whole 0 FILE_BYTES_MOST front content refl is (omega (arith, few))
 
 file-refused : (number : ℕ) (front content : List ℕ) (kind : SourceKind) (at : ℕ) → front ≡ take (FILE_BYTES_MOST + 1) content
     → IsProgramRefused Ts front number [] (faults.Refused kind at) → IsProgramRefused Ts content number [] (faults.Refused kind at)
-file-refused number front content kind at is (of_file.long many said) =
+file-refused number front content kind at is (IsProgramRefused.long many said) =
     let size : length front ≡ min (FILE_BYTES_MOST + 1) (length content) = ap length is ∙ length-take (FILE_BYTES_MOST + 1) content in
-    of_file.long (omega (arith, many, size)) said
-file-refused number front content kind at is (of_file.streams few refused) =
-    subst (λ (l : List ℕ). IsProgramRefused Ts l number [] (faults.Refused kind at)) (whole front content is few) (of_file.streams few refused)
-file-refused number front content kind at is (of_file.many_packets demuxed few out many said) =
-    subst (λ (l : List ℕ). IsProgramRefused Ts l number [] (faults.Refused kind at)) (whole front content is few) (of_file.many_packets demuxed few out many said)
-file-refused number front content kind at is (of_file.taken_out demuxed few out packets refused) =
-    subst (λ (l : List ℕ). IsProgramRefused Ts l number [] (faults.Refused kind at)) (whole front content is few) (of_file.taken_out demuxed few out packets refused)
-file-refused number front content kind at is (of_file.memory said) = absurd (is-no-memory kind at said)
+    IsProgramRefused.long (omega (arith, many, size)) said
+file-refused number front content kind at is (IsProgramRefused.streams few refused) =
+    subst (λ (l : List ℕ). IsProgramRefused Ts l number [] (faults.Refused kind at)) (whole front content is few) (IsProgramRefused.streams few refused)
+file-refused number front content kind at is (IsProgramRefused.many_packets demuxed few out many said) =
+    subst (λ (l : List ℕ). IsProgramRefused Ts l number [] (faults.Refused kind at)) (whole front content is few) (IsProgramRefused.many_packets demuxed few out many said)
+file-refused number front content kind at is (IsProgramRefused.taken_out demuxed few out packets refused) =
+    subst (λ (l : List ℕ). IsProgramRefused Ts l number [] (faults.Refused kind at)) (whole front content is few) (IsProgramRefused.taken_out demuxed few out packets refused)
+file-refused number front content kind at is (IsProgramRefused.memory said) = absurd (is-no-memory kind at said)
 
 refused-alone : (slot start number : ℕ) (front content : List ℕ) (kind : SourceKind) (at : ℕ) → front ≡ take (FILE_BYTES_MOST + 1) content
     → IsAloneRefused slot start number front kind at → IsAloneRefused slot start number content kind at

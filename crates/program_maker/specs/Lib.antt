@@ -5,4 +5,5 @@ pub mod Packets
 pub mod Pictures
 pub mod Private
 pub mod Program
+pub mod ProgramStream
 pub mod Streams

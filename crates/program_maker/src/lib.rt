@@ -2,7 +2,7 @@
 //!
 //! `make_program` gives the bytes that the definition of a seed's program says, and no others: pictures and audio frames by
 //! draws of a linear congruential generator, each picture in its written spelling, and all of it in packets. It is a source of
-//! test streams: nothing is claimed of decoder buffers. Stands on `macroblock_writer`, `pes_units`, `psi_tables` and
+//! test streams: nothing is claimed of decoder buffers. `in_program_stream` puts the packets of a program into the other form. Stands on `macroblock_writer`, `pes_units`, `psi_tables` and
 //! `ts_packets`.
 #![tactic(auto)]
 
@@ -12,10 +12,12 @@ mod frames;
 mod heads;
 pub mod laws;
 mod macroblocks;
+mod other_form;
 mod output;
 mod pictures;
 mod program;
 
 pub use format::PICTURES_MOST;
 pub use list_types::{ListOf, OutOfMemory};
+pub use other_form::{in_program_stream, put_element};
 pub use program::make_program;

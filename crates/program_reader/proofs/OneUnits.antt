@@ -1,14 +1,13 @@
 -- A video has one list of kept units and pictures, or one fault.
-use Rattle.std.proofs.Common.{◌≡◌, ◌⊎◌, ℕ, ◌^◌, Bool, true, List, [], ◌∷◌, ◌++◌, map, Option, None, Some, refl, sym, ap, ap₂, ◌∙◌, subst, inl, inr, arith, ℤ, pos, ◌+ℤ◌, ◌*ℤ◌}
+use Rattle.std.proofs.Common.{◌≡◌, ◌⊎◌, ℕ, Bool, true, List, [], ◌∷◌, ◌++◌, map, Option, None, Some, refl, sym, ap, ap₂, ◌∙◌, subst, inl, inr, arith, ℤ, pos, ◌*ℤ◌}
 use Rattle.std.specs.List.{last_or}
-use Rattle.std.proofs.lemmas.Int.{ints}
 use Rattle.pes_units.specs.declared.times.Times.{Times}
-use Rattle.pes_units.specs.TimeAxis.{IsUnwrapped}
 use Rattle.pes_units.specs.Times.{decoding_time}
 use Rattle.picture_grammar.specs.Refusal.{Refusal}
 use Rattle.syntax_types.specs.declared.picture.PicCoding.{PicCoding}
 use Rattle.syntax_types.specs.declared.picture.SeqState.{SeqState}
 use Rattle.elementary_streams.specs.declared.pes_packets.PlacedPacket.{PlacedPacket}
+use Rattle.elementary_streams.proofs.OneAudio.{unwrapped_one}
 use Rattle.program_reader.specs.declared.program_fault.ProgramFault.{ProgramFault}
 use Rattle.program_reader.specs.declared.program_fault.ProgramFault.TheVariants.{Refused}
 use Rattle.program_reader.specs.declared.timed_picture.Role.{Role}
@@ -20,12 +19,6 @@ use Rattle.program_reader.specs.Units.{coded_as, role_of, IsCoded, IsBroken, IsU
 use Rattle.program_reader.proofs.OnePicture.{coded_one, coded_or_broken, broken_one}
 
 -- ---- a unit
-
-pub unwrapped_one : (before : ℤ) (value : ℕ) (a b : ℤ) → IsUnwrapped before value a → IsUnwrapped before value b → a ≡ b
-unwrapped_one before value a b first second =
-    let a_is : a ≡ pos value +ℤ first.congruent.0 *ℤ pos (2 ^ 33) = first.congruent.1 in
-    let b_is : b ≡ pos value +ℤ second.congruent.0 *ℤ pos (2 ^ 33) = second.congruent.1 in
-    omega (arith, ints, a_is, b_is)
 
 pub timed_one : (before : Option TimedPicture) (value : Option ℕ) (s t ticks other : ℤ) → IsTimed before value s ticks → IsTimed before value t other → (s ≡ t) × (ticks ≡ other)
 timed_one None None s t ticks other is is' = absurd is

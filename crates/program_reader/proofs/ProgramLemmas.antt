@@ -77,6 +77,7 @@ use Rattle.program_reader.specs.declared.program_fault.ProgramFault.TheVariants.
 use Rattle.program_reader.specs.declared.program_fault.SourceKind.TheVariants as kinds
 use Rattle.program_reader.specs.declared.timed_picture.TimedPicture.{TimedPicture}
 use Rattle.program_reader.specs.declared.video_stream.ReadVideo.{ReadVideo}
+use Rattle.program_reader.specs.Faults.{of_stream}
 use Rattle.program_reader.specs.KeptUnits.{AreRows, first_of}
 use Rattle.program_reader.specs.Audio.{IsAudioFault, IsDue, AreAudioSources}
 use Rattle.elementary_streams.specs.Packets.{IsPacketFault, taken, packets_dropped, joined, placed_from}

@@ -1,18 +1,12 @@
--- The stream types of the audio streams of a program stream, for which a map is made (ISO/IEC 13818-1, Table 2-34).
-use Rattle.std.specs.Prelude.{ℕ, List, ◌++◌, take, map, if◌then◌else◌}
-use Rattle.audio_frames.specs.Frames.{has_low_rate}
+-- The map of a program stream by the types of its audio streams (ISO/IEC 13818-1, Table 2-34).
+use Rattle.std.specs.Prelude.{List, ◌++◌, take, map}
 use Rattle.psi_tables.specs.declared.program_map.ProgramMap.{ProgramMap}
 use Rattle.ts_demux.specs.declared.demuxed.AudioStream.{AudioStream}
 use Rattle.ts_demux.specs.declared.demuxed.Demuxed.{Demuxed}
 use Rattle.program_stream.specs.Streams.{map_stream}
 use Rattle.job_report.specs.declared.job.Form.{Form}
 use Rattle.job_report.specs.declared.job.Form.TheVariants.{Ts, Ps}
-use Rattle.elementary_streams.specs.Packets.{joined}
-use Rattle.elementary_streams.specs.Audio.{taken_of}
-
--- stream_type 04 of a stream whose first frame has a low sampling rate (ISO/IEC 13818-3), 03 of every other one (ISO/IEC 11172-3)
-abbrev pub audio_type : AudioStream → ℕ
-audio_type stream = if has_low_rate (joined (taken_of stream)) then 4 else 3
+use Rattle.elementary_streams.specs.Audio.{audio_type}
 
 -- a map in which these audio streams, each with its type, stand behind the video
 abbrev pub with_audio_types : ProgramMap → List AudioStream → ProgramMap

@@ -3,8 +3,7 @@
 //! `read_program` answers a program, or the first refusal of its file with its place: one answer alone, by `laws::one_answer`.
 //! `read_sized_program` answers the sizes of all versions of its units too, and reads each unit once for both. `unit_weight` says by
 //! how much a unit's distortions count. The steps stand in a file each.
-//! Stands on `ts_demux`, `program_stream`, `pes_units`, `es_units`, `audio_frames`, `picture_reader`, `version_maker`, `job_report` and those below
-//! them.
+//! Stands on `ts_demux`, `program_stream`, `elementary_streams`, `es_units`, `picture_reader`, `version_maker`, `job_report` and those below them.
 #![tactic(auto)]
 
 mod audio_sources;

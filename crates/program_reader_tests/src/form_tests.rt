@@ -3,11 +3,11 @@
 use crate::packets::{audio_pes, video_pes};
 use crate::streams::{I_FRAME, PROGRESSIVE, SEQUENCE, two_frames, unit_of};
 use job_report::Form;
-use program_maker::make_program;
+use program_maker::{in_program_stream, make_program, put_element};
 use program_reader::{AudioSource, Program, ProgramFault, SourceKind, read_program};
 use std::alloc::{AllocError, Global};
 use std::test::Fail;
-use ts_demux::{PesUnit, demux};
+use ts_demux::demux;
 
 /// When the earliest time is due, in ticks.
 const START: u64 = 1_000;
@@ -26,40 +26,6 @@ const END: [u8; 4] = [0, 0, 1, 0xB9];
 
 /// A video packet of one byte, which is none of a PES header.
 const SHORT_VIDEO: [u8; 7] = [0, 0, 1, 0xE0, 0, 1, 0xAA];
-
-/// Puts a PES packet as an element, with its length in place of the one that it states.
-fn put_element(stream: &mut Vec<u8>, pes: &[u8]) -> Result<(), AllocError> {
-    let size = u16::try_from(pes.len().saturating_sub(6)).unwrap_or(0);
-    let [high, low] = size.to_be_bytes();
-    for (at, byte) in pes.iter().enumerate() {
-        stream.push(match at {
-            4 => high,
-            5 => low,
-            _ => *byte,
-        })?;
-    }
-    Ok(())
-}
-
-/// Puts PES packets as elements.
-fn put_elements(stream: &mut Vec<u8>, packets: &[PesUnit]) -> Result<(), AllocError> {
-    for packet in packets {
-        put_element(stream, packet.bytes.as_slice())?;
-    }
-    Ok(())
-}
-
-/// A program stream of the PES packets of a transport stream's program, one pack header first.
-fn in_other_form(alloc: Global, transport: &[u8]) -> Result<Vec<u8>, Fail> {
-    let demuxed = demux(alloc, transport, 1, &[])?;
-    let mut stream = Vec::new(alloc);
-    stream.extend_from_slice(&PACK)?;
-    put_elements(&mut stream, demuxed.video.as_slice())?;
-    for audio in demuxed.audios.as_slice() {
-        put_elements(&mut stream, audio.units.as_slice())?;
-    }
-    Ok(stream)
-}
 
 /// True where audio streams have the same bytes and pieces.
 fn are_same_audios(one: &[AudioSource], other: &[AudioSource]) -> bool {
@@ -82,7 +48,8 @@ fn streams_of(alloc: Global, program: &Program) -> Result<Vec<(u8, u16)>, AllocE
 #[test]
 fn the_packets_of_a_transport_stream_are_the_same_program(rt: HostRuntime) -> Result<(), Fail> {
     let transport = make_program(rt.alloc(), 1, 12)?.into_vec();
-    let stream = in_other_form(rt.alloc(), transport.as_slice())?;
+    let demuxed = demux(rt.alloc(), transport.as_slice(), 1, &[])?;
+    let stream = in_program_stream(rt.alloc(), &demuxed)?;
     let one = read_program(rt.alloc(), transport.as_slice(), Form::Ts, 1, &[], START)?;
     let other = read_program(rt.alloc(), stream.as_slice(), Form::Ps, 1, &[], START)?;
     assert_eq!(rt; other.units.len(), 12);

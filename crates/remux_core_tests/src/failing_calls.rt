@@ -325,6 +325,7 @@ fn a_report_that_fails_is_a_write_fault(rt: HostRuntime) -> Result<(), Fail> {
         (["check-plan", "t", "o"].as_slice(), false),
         (["impossible", "t"].as_slice(), false),
         (["fit", "j", "l"].as_slice(), false),
+        (["audit", "a.ts", "1", "4000"].as_slice(), false),
         (["none"].as_slice(), false),
     ] {
         let mut shelf = shelf_of(rt.alloc(), 0)?;

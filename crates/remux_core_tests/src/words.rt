@@ -3,7 +3,7 @@ use shelf_kinds::CalmShelf;
 use std::test::Fail;
 
 /// Words that are no command.
-const NO_COMMANDS: [&[&str]; 46] = [
+const NO_COMMANDS: [&[&str]; 54] = [
     &[],
     &["plan", "t"],
     &["plan", "t", "t"],
@@ -50,6 +50,14 @@ const NO_COMMANDS: [&[&str]; 46] = [
     &["probe", "", "1", "t"],
     &["probe", "a", "1", ""],
     &["probe", "a", "1", "t", "c"],
+    &["audit", "a", "1"],
+    &["audit", "", "1", "4000"],
+    &["audit", "a", "0", "4000"],
+    &["audit", "a", "65536", "4000"],
+    &["audit", "a", "1", "1015"],
+    &["audit", "a", "1", "40001"],
+    &["audit", "a", "1", "04000"],
+    &["audit", "a", "1", "4000", "c"],
 ];
 
 #[test]

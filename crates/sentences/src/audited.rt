@@ -127,7 +127,14 @@ fn overflow<R: Files + AllocGlobal>(rt: &R, found: &Found<'_>) -> Result<String,
     let alloc = rt.alloc();
     let stream = stream_in_words(alloc, found)?;
     let place = place_in_words(alloc, found)?;
-    let crowd = crowd_in(rt, found.file, found.pid, found.slot, found.at, leaving(found.carried));
+    let crowd = crowd_in(
+        rt,
+        found.file,
+        found.pid,
+        found.slot,
+        found.at,
+        leaving(found.carried),
+    );
     match crowd {
         Some(bytes) if bytes > TB_BYTES => format!(in alloc;
             "the transport buffer of {stream} overflows {place}: it holds {bytes} bytes, and {TB_BYTES} fit; packets of that PID stand too close together: \
@@ -186,7 +193,10 @@ fn stream_in_words(alloc: Global, found: &Found<'_>) -> Result<String, AllocErro
     match found.carried {
         Carried::Video => format!(in alloc; "the video (PID {})", found.pid),
         Carried::Audio => format!(in alloc; "the audio stream on PID {}", found.pid),
-        Carried::Sections => String::from_str(alloc, "the sections (PID 0 and that of the program's map)"),
+        Carried::Sections => String::from_str(
+            alloc,
+            "the sections (PID 0 and that of the program's map)",
+        ),
     }
 }
 

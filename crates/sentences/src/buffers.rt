@@ -1,9 +1,10 @@
 //! The decoder buffers that the files of a job state: plain ffmpeg states one that is smaller than its pictures.
 
 use crate::first_header::first_header;
-use crate::job_again::{file_of, job_table};
+use crate::job_again::{file_of, form_of, job_table};
 use crate::line::{End, list, number};
 use crate::sources::CODE;
+use job_report::Form;
 use serde_json::Value;
 use std::alloc::AllocError;
 use std::rt::Files;
@@ -24,7 +25,7 @@ pub(crate) fn small_buffers<R: Files + AllocGlobal>(
     };
     for program in 0..PROGRAMS_MOST as u64 {
         if let Some(file) = file_of(&table, program) {
-            add_small(rt, &mut said, file)?;
+            add_small(rt, &mut said, file, form_of(&table, program))?;
         }
     }
     Ok(said)
@@ -35,8 +36,9 @@ fn add_small<R: Files + AllocGlobal>(
     rt: &R,
     said: &mut String,
     file: &str,
+    form: Form,
 ) -> Result<(), AllocError> {
-    let Some(units) = small_buffer(rt, file) else {
+    let Some(units) = small_buffer(rt, file, form) else {
         return Ok(());
     };
     let text = format!(in rt.alloc();
@@ -57,7 +59,8 @@ pub(crate) fn coarse_programs<R: Files + AllocGlobal>(
     for (at, program) in list(line, "programs").iter().enumerate() {
         if is_coarse(program) {
             if let Some(file) = file_of(table, at as u64) {
-                add_coarse(rt, &mut said, file, number(program, "number"))?;
+                let form = form_of(table, at as u64);
+                add_coarse(rt, &mut said, file, form, number(program, "number"))?;
             }
         }
     }
@@ -87,9 +90,10 @@ fn add_coarse<R: Files + AllocGlobal>(
     rt: &R,
     said: &mut String,
     file: &str,
+    form: Form,
     number: u64,
 ) -> Result<(), AllocError> {
-    let Some(units) = small_buffer(rt, file) else {
+    let Some(units) = small_buffer(rt, file, form) else {
         return Ok(());
     };
     let text = format!(in rt.alloc();
@@ -99,8 +103,8 @@ fn add_coarse<R: Files + AllocGlobal>(
 }
 
 /// The buffer that a file states, in units of 2,048 bytes, where it is small.
-fn small_buffer<R: Files>(rt: &R, name: &str) -> Option<u16> {
-    match first_header(rt, name) {
+fn small_buffer<R: Files>(rt: &R, name: &str, form: Form) -> Option<u16> {
+    match first_header(rt, name, form) {
         Some(header) if header.buffer < SMALL_UNITS => Some(header.buffer),
         _ => None,
     }

@@ -13,6 +13,7 @@ const PIECE_BYTES: usize = 348 * PACKET_BYTES;
 const BEFORE: u64 = SUBTICKS_PER_SECOND / 20;
 
 /// A transport buffer whose bytes leave one after the other.
+#[derive(Drop)]
 struct Crowd {
     /// Subticks that a byte takes to leave.
     leaving: u64,

@@ -2,6 +2,7 @@
 
 use crate::carrier::{StreamPid, packet_buffer};
 use crate::sent_pictures::TypeFinder;
+use pes_units::PesHeader;
 use pes_walk::PesWalk;
 use shelf_io::Reading;
 use shelf_kinds::FileShelf;
@@ -9,6 +10,7 @@ use std::alloc::{AllocError, Global};
 use std::rt::Files;
 use stream_constants::clock::TICKS_PER_TIME_UNIT;
 use stream_constants::packets::PACKET_BYTES;
+use ts_demux::{Demuxed, PesUnit};
 use ts_packets::{PidReader, pid_of};
 
 /// Times of PES headers before they begin anew: they have 33 bits (13818-1, 2.4.3.7).
@@ -49,6 +51,50 @@ pub(crate) fn extent_of<R: Files + AllocGlobal>(
         packets.pass();
     }
     None
+}
+
+/// Counts the packets and pictures of the streams of a program stream.
+pub(crate) fn extent_of_elements(demuxed: &Demuxed) -> Extent {
+    let mut extent = extent_of_units(demuxed.video.as_slice(), true);
+    for audio in demuxed.audios.as_slice() {
+        let other = extent_of_units(audio.units.as_slice(), false);
+        extent.pes = extent.pes.max(other.pes);
+        extent.ticks = extent.ticks.max(other.ticks);
+    }
+    extent
+}
+
+/// The same of the packets of one stream.
+fn extent_of_units(units: &[PesUnit], is_video: bool) -> Extent {
+    let mut times = Times::new();
+    let mut finder = TypeFinder::new();
+    let mut pictures = 0u64;
+    for unit in units {
+        let bytes = unit.bytes.as_slice();
+        if let Ok(header) = PesHeader::read(bytes, is_video) {
+            if let Some(time) = header.times.dts.or(header.times.pts) {
+                times.add(time);
+            }
+            let data = &bytes[usize::from(header.len).min(bytes.len())..];
+            pictures = pictures.saturating_add(pictures_in(&mut finder, data));
+        }
+    }
+    Extent {
+        pes: units.len() as u64,
+        pictures: if is_video { pictures } else { 0 },
+        ticks: times.lasting(),
+    }
+}
+
+/// How many pictures begin in the next bytes of a video.
+fn pictures_in(finder: &mut TypeFinder, data: &[u8]) -> u64 {
+    let mut pictures = 0u64;
+    for byte in data {
+        if finder.take(*byte).is_some() {
+            pictures = pictures.saturating_add(1);
+        }
+    }
+    pictures
 }
 
 /// Takes the next packet of a file for the streams of which it is one.
@@ -120,19 +166,11 @@ impl StreamCount {
             return Err(AllocError);
         };
         if self.stream.is_video {
-            self.count_pictures(data);
+            let pictures = pictures_in(&mut self.finder, data);
+            self.pictures = self.pictures.saturating_add(pictures);
         }
         self.count_time();
         Ok(())
-    }
-
-    /// Counts the pictures that begin in bytes of a video.
-    fn count_pictures(&mut self, data: &[u8]) {
-        for byte in data {
-            if self.finder.take(*byte).is_some() {
-                self.pictures = self.pictures.saturating_add(1);
-            }
-        }
     }
 
     /// Counts the time of the last PES packet, once it is known.

@@ -1,3 +1,4 @@
+use job_report::Form;
 use shelf_io::Shelf;
 use shelf_kinds::FileShelf;
 use std::rt::Files;
@@ -19,8 +20,8 @@ pub(crate) struct Header {
     pub(crate) buffer: u16,
 }
 
-/// The first sequence header of a file; none where its front has no whole one in a packet.
-pub(crate) fn first_header<R: Files>(rt: &R, name: &str) -> Option<Header> {
+/// The first sequence header of a file of a form; none where its front has no whole one in a packet.
+pub(crate) fn first_header<R: Files>(rt: &R, name: &str, form: Form) -> Option<Header> {
     let mut shelf = FileShelf::new(rt);
     let mut room = [0u8; PIECE_BYTES];
     let mut from = 0u64;
@@ -28,7 +29,7 @@ pub(crate) fn first_header<R: Files>(rt: &R, name: &str) -> Option<Header> {
         let Ok(count) = shelf.read(name, from, &mut room) else {
             return None;
         };
-        if let Some(header) = header_in(&room[..count]) {
+        if let Some(header) = header_in(&room[..count], form) {
             return Some(header);
         }
         let whole = count - count % PACKET_BYTES;
@@ -40,13 +41,24 @@ pub(crate) fn first_header<R: Files>(rt: &R, name: &str) -> Option<Header> {
     None
 }
 
-/// The first sequence header of a piece.
-fn header_in(piece: &[u8]) -> Option<Header> {
+/// The first sequence header of a piece: in a transport stream it stands in one packet, in a program stream packets are longer than pieces.
+fn header_in(piece: &[u8], form: Form) -> Option<Header> {
+    if let Form::Ps = form {
+        return header_among(piece);
+    }
     for packet in piece.chunks_exact(PACKET_BYTES) {
-        for at in 0..packet.len() {
-            if let Some(header) = header_at(&packet[at..]) {
-                return Some(header);
-            }
+        if let Some(header) = header_among(packet) {
+            return Some(header);
+        }
+    }
+    None
+}
+
+/// The first sequence header among some bytes.
+fn header_among(bytes: &[u8]) -> Option<Header> {
+    for at in 0..bytes.len() {
+        if let Some(header) = header_at(&bytes[at..]) {
+            return Some(header);
         }
     }
     None

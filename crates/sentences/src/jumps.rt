@@ -2,7 +2,7 @@
 
 use crate::amounts::Seconds;
 use crate::first_header::first_header;
-use crate::job_again::{file_of, integer};
+use crate::job_again::{file_of, form_of, integer};
 use crate::line::{End, list, number};
 use job_report::limits::START_DEFAULT;
 use serde_json::Value;
@@ -41,7 +41,8 @@ pub(crate) fn long_waits<R: Files + AllocGlobal>(
 fn longest_program<R: Files>(rt: &R, line: &Value, table: &Table) -> u64 {
     let mut longest = 0u64;
     for (at, program) in list(line, "programs").iter().enumerate() {
-        let rate = match file_of(table, at as u64).and_then(|file| first_header(rt, file)) {
+        let form = form_of(table, at as u64);
+        let rate = match file_of(table, at as u64).and_then(|file| first_header(rt, file, form)) {
             Some(header) => header.rate,
             None => 0,
         };

@@ -5,15 +5,12 @@
 //! no other crate knows of it. Where a sentence wants more, the text of the job or table and the file that was refused are read once more.
 //! Nothing rests on the wording, and nothing is promised of it. Stands on `job_report` and `version_table` for what is allowed in texts, on
 //! `program_reader` and `job_programs` for the limits of programs, on `window_slots` for the rate at which a window of time has room, on
-//! `ts_packets`, `ts_demux`, `pes_walk` and `audio_frames` for places in streams, on `shelf_kinds` for the files.
+//! `ts_packets`, `ts_demux`, `program_stream`, `pes_units`, `pes_walk` and `audio_frames` for places in streams, on `shelf_kinds` for the files.
 #![tactic(auto)]
 
 mod amounts;
-<<<<<<< HEAD
 mod audio_again;
-=======
 mod audited;
->>>>>>> 368d610a8cf5258cbed5e5ddadaf3682e052b913
 mod buffers;
 mod carrier;
 mod certificates;
@@ -21,6 +18,7 @@ mod clock;
 mod coarser;
 mod crowd;
 mod done;
+mod elements;
 mod extent;
 mod first_header;
 mod fitted;

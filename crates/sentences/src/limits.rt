@@ -2,12 +2,15 @@
 //! limits are named.
 
 use crate::amounts::Seconds;
-use crate::extent::{Extent, extent_of};
+use crate::elements::split_again;
+use crate::extent::{Extent, extent_of, extent_of_elements};
 use crate::named_program::NamedProgram;
 use job_programs::limits::{AUDIO_PACKETS_MOST, PROBED_AUDIO_PACKETS_MOST, TIMES_LIMIT};
+use job_report::Form;
 use program_reader::limits::{
     FILE_BYTES_MOST, PES_PACKETS_MOST, TIME_SLOTS_MOST, UNIT_BYTES_MOST, UNITS_MOST,
 };
+use program_stream::SplitFault;
 use std::alloc::{AllocError, Global};
 use std::rt::Files;
 use stream_audit::AUDITED_BYTES_MOST;
@@ -22,6 +25,9 @@ pub(crate) fn limits_in_words<R: Files + AllocGlobal>(
     let Some(program) = program else {
         return program_limits(alloc);
     };
+    if let Form::Ps = program.form {
+        return limits_of_elements(rt, program);
+    }
     let Some(streams) = program.streams(rt) else {
         return program_limits(alloc);
     };
@@ -34,6 +40,20 @@ pub(crate) fn limits_in_words<R: Files + AllocGlobal>(
     match extent_of(rt, program.file, streams.as_slice()) {
         Some(extent) => passed_limit(alloc, program, extent),
         None => program_limits(alloc),
+    }
+}
+
+/// The same of a program stream.
+fn limits_of_elements<R: Files + AllocGlobal>(
+    rt: &R,
+    program: NamedProgram<'_>,
+) -> Result<String, AllocError> {
+    match split_again(rt, &program) {
+        Ok(demuxed) => passed_limit(rt.alloc(), program, extent_of_elements(&demuxed)),
+        Err(SplitFault::ProgramLimit { at: _ }) => format!(in rt.alloc();
+            "it has more than {AUDIOS_MOST} audio streams: name others in `drop` of the job"
+        ),
+        Err(_) => program_limits(rt.alloc()),
     }
 }
 

@@ -9,6 +9,7 @@ use job_report::limits::{PROBE_SLOT, START_DEFAULT};
 use psi_tables::{STREAMS_MOST, Stream};
 use shelf_io::Reading;
 use shelf_kinds::FileShelf;
+use std::alloc::Global;
 use std::rt::Files;
 use toml::{Table, Value};
 use ts_demux::read_map;
@@ -100,6 +101,15 @@ impl<'a> NamedProgram<'a> {
             }
         }
         Some(pids)
+    }
+
+    /// The stream ids of a program stream's audio streams that aren't carried; none where memory is wanting.
+    pub(crate) fn dropped_ids(&self, alloc: Global) -> Option<Vec<u16>> {
+        let mut ids = Vec::new(alloc);
+        for id in self.drop {
+            ids.push(u16::try_from(id.as_integer()?).ok()?).ok()?;
+        }
+        Some(ids)
     }
 
     /// Its video.

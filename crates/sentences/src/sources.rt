@@ -4,6 +4,7 @@ use crate::amounts::Seconds;
 use crate::audio_again::refused_audio;
 use crate::carrier::{StreamPid, carrier_of};
 use crate::clock::ticks_before;
+use crate::elements::element_of;
 use crate::job_again::job_table;
 use crate::kinds::{Help, Place, kind_of};
 use crate::limits::limits_in_words;
@@ -142,6 +143,9 @@ fn place_in_video<R: Files + AllocGlobal>(
     let Some(program) = program else {
         return format!(in rt.alloc(); " at byte {at} of its video");
     };
+    if let Form::Ps = program.form {
+        return place_in_elements(rt, "its video", &program, true, at);
+    }
     place_in_stream(rt, "its video", &program, program.video(rt), at)
 }
 
@@ -154,6 +158,9 @@ fn place_in_audio<R: Files + AllocGlobal>(
     let Some(program) = program else {
         return format!(in rt.alloc(); " at byte {at} of an audio stream");
     };
+    if let Form::Ps = program.form {
+        return place_in_elements(rt, "an audio stream", &program, false, at);
+    }
     let Some(stream) = refused_audio(rt, &program, at) else {
         return place_in_stream(rt, "an audio stream", &program, program.only_audio(rt), at);
     };
@@ -183,6 +190,24 @@ fn place_in_stream<R: Files + AllocGlobal>(
         pes = carrier.pes,
         byte = carrier.at
     )
+}
+
+/// The same in a program stream, of the video or of the only audio stream.
+fn place_in_elements<R: Files + AllocGlobal>(
+    rt: &R,
+    name: &str,
+    program: &NamedProgram<'_>,
+    is_video: bool,
+    at: u64,
+) -> Result<String, AllocError> {
+    match element_of(rt, program, is_video, at) {
+        Some(carrier) => format!(in rt.alloc();
+            " at byte {at} of {name}, PES packet {pes} from 0; in the file byte {byte}",
+            pes = carrier.pes,
+            byte = carrier.at
+        ),
+        None => format!(in rt.alloc(); " at byte {at} of {name}"),
+    }
 }
 
 /// The packet of a file that begins at a byte, and how long after the file's first clock it comes, where that is told.

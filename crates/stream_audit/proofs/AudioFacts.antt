@@ -24,12 +24,12 @@ use Rattle.stream_audit.specs.declared.frame_removals.FrameClock.{FrameClock}
 use Rattle.stream_audit.specs.declared.kept_units.KeptUnits.{KeptUnits}
 use Rattle.elementary_streams.specs.declared.pes_packets.PlacedPacket.{PlacedPacket}
 use Rattle.stream_audit.specs.Findings.{CanBeJudged}
-use Rattle.stream_audit.specs.PesBytes.{arrivals_of, bytes_before, parts_of_packets}
+use Rattle.stream_audit.specs.PesBytes.{brought_by_all, bytes_before, parts_of_packets}
 use Rattle.elementary_streams.specs.Packets.{joined, pes_payload_of, placed_from, taken}
 use Rattle.elementary_streams.proofs.TakenLemmas.{placed_at}
 use Rattle.stream_audit.specs.declared.audit_stop.AuditStop.{AuditStop}
 use Rattle.stream_audit.specs.declared.audit_stop.AuditStop.TheVariants.{OutOfMemory, ProgramLimit}
-use Rattle.stream_audit.specs.Refusals.{IsAudioSound, IsAudioStopped, of_stream}
+use Rattle.stream_audit.specs.Refusals.{IsAudioSound, IsAudioStopped, stop_of_stream}
 use Rattle.elementary_streams.specs.Audio.{IsStreamRefused, HasFrames, IsStreamRead}
 use Rattle.stream_audit.specs.Removals.{AreInTime, first_due, first_time, frame_due, frame_removals, header_bytes_in, removed_at}
 use Rattle.stream_audit.specs.Streams.{IsAudioOf}
@@ -150,8 +150,8 @@ module _ (kept : KeptUnits) (offset : ℤ) (frames lent : List Frame) (same : le
 
 -- what refuses to read it
 pub audio_unread : (first : ℤ) (kept : KeptUnits) (stream : AudioStream) (found : StreamFault) (stop : AuditStop) → first ≡ pos (first_time kept) →
-    (found ≡ stream_faults.OutOfMemory) ⊎ IsStreamRefused first stream found → stop ≡ of_stream stream.pid found → (stop ≡ OutOfMemory) ⊎ IsAudioStopped kept stream stop
-audio_unread first kept stream found stop first_is (inl memory) said = inl (said ∙ ap (of_stream stream.pid) memory)
+    (found ≡ stream_faults.OutOfMemory) ⊎ IsStreamRefused first stream found → stop ≡ stop_of_stream stream.pid found → (stop ≡ OutOfMemory) ⊎ IsAudioStopped kept stream stop
+audio_unread first kept stream found stop first_is (inl memory) said = inl (said ∙ ap (stop_of_stream stream.pid) memory)
 audio_unread first kept stream found stop first_is (inr unread) said =
     inr (IsAudioStopped.unread found (subst (λ (time : ℤ). IsStreamRefused time stream found) first_is unread) said)
 
@@ -207,7 +207,7 @@ front_taken first stream read lent front count is same count_is front_is =
 pub is_audio : (first : ℤ) (zero bytes before : ℕ) (kept : KeptUnits) (places : List Place) (stream : AudioStream) (read : ReadStream) (clock : FrameClock) (front : List PesUnit) (placed : List PlacedPacket)
     (frames : List Frame) (arrivals : List Arrival) (removals : List Removal) → IsStreamRead first stream read → first ≡ pos (first_time kept) → bytes ≡ read.bytes → before ≡ bytes_before places →
     clock.zero ≡ zero → clock.base ≡ kept.base → clock.offset ≡ pos (first_due kept) -ℤ pos (300 * first_time kept) → front ≡ taken false stream.units →
-    placed ≡ read.packets.items → frames ≡ read.frames → arrivals ≡ arrivals_of places (replicate before Overhead ++ parts_of_packets (record { from = 0; to = 0 + bytes }) 0 front) →
+    placed ≡ read.packets.items → frames ≡ read.frames → arrivals ≡ brought_by_all places (replicate before Overhead ++ parts_of_packets (record { from = 0; to = 0 + bytes }) 0 front) →
     removals ≡ map (frame_removal clock placed) frames →
     IsAudioOf places zero kept stream (record { pid = stream.pid; kind = Audio; arrivals = arrivals; removals = removals })
 is_audio first zero bytes before kept places stream read clock front placed frames arrivals removals is first_is bytes_are before_is zero_is base_is offset_is front_is placed_is frames_are
@@ -216,9 +216,9 @@ is_audio first zero bytes before kept places stream read clock front placed fram
       framed = subst (λ (time : ℤ). HasFrames time stream read.frames) first_is is.frames_are;
       stream_is = rw (
         arrivals_are
-            ∙ ap (λ (n : ℕ). arrivals_of places (replicate n Overhead ++ parts_of_packets (record { from = 0; to = 0 + bytes }) 0 front)) before_is
-            ∙ ap (λ (n : ℕ). arrivals_of places (replicate (bytes_before places) Overhead ++ parts_of_packets (record { from = 0; to = n }) 0 front)) whole
-            ∙ ap (λ (ps : List PesUnit). arrivals_of places (replicate (bytes_before places) Overhead ++ parts_of_packets (record { from = 0; to = length (joined (taken false stream.units)) }) 0 ps)) front_is,
+            ∙ ap (λ (n : ℕ). brought_by_all places (replicate n Overhead ++ parts_of_packets (record { from = 0; to = 0 + bytes }) 0 front)) before_is
+            ∙ ap (λ (n : ℕ). brought_by_all places (replicate (bytes_before places) Overhead ++ parts_of_packets (record { from = 0; to = n }) 0 front)) whole
+            ∙ ap (λ (ps : List PesUnit). brought_by_all places (replicate (bytes_before places) Overhead ++ parts_of_packets (record { from = 0; to = length (joined (taken false stream.units)) }) 0 ps)) front_is,
         removals_are ∙ ap (map (frame_removal clock placed)) frames_are
             ∙ removals_same zero kept clock (taken false stream.units) placed read.frames zero_is base_is offset_is (placed_is ∙ is.placed),
       ) refl;

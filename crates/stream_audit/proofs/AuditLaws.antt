@@ -19,7 +19,7 @@ use Rattle.stream_audit.specs.declared.file_clock.FoundClock.{FoundClock}
 use Rattle.stream_audit.specs.declared.kept_units.KeptUnits.{KeptUnits}
 use Rattle.stream_audit.specs.Audit.{AreStreamsOf}
 use Rattle.stream_audit.specs.Findings.{CanBeJudged}
-use Rattle.stream_audit.specs.Refusals.{IsAuditStopped, IsAudioSound, IsAudioStopped, IsFirstAudioStopped, IsProgramRead, IsVideoSound, of_demux}
+use Rattle.stream_audit.specs.Refusals.{IsAuditStopped, IsAudioSound, IsAudioStopped, IsFirstAudioStopped, IsProgramRead, IsVideoSound, IsVideoStopped, stop_of_demux}
 use Rattle.stream_audit.specs.Streams.{AreAudioStreams, IsAudioStream, IsVideoStream, system_stream}
 use Rattle.stream_audit.specs.Private.Audit.{AddsAudios, AreStreamsStopped, AudiosSoFar, CarriesStreams, IsCarriedAudio}
 use Rattle.stream_audit.specs.Private.Audit.AreStreamsStopped.{memory, bad_video, bad_audio}
@@ -90,8 +90,8 @@ carries_streams file program demuxed within is =
     }
 
 -- no packet of the PID is refused, so that memory was wanted
-pub wants_memory : (file : List ℕ) (pid : ℕ) (fault : DemuxFault) → AreStreamsSound file (pid ∷ []) → IsPlacesFault file pid fault → of_demux fault ≡ OutOfMemory
-wants_memory file pid fault sound (inl is_memory) = ap of_demux is_memory
+pub wants_memory : (file : List ℕ) (pid : ℕ) (fault : DemuxFault) → AreStreamsSound file (pid ∷ []) → IsPlacesFault file pid fault → stop_of_demux fault ≡ OutOfMemory
+wants_memory file pid fault sound (inl is_memory) = ap stop_of_demux is_memory
 wants_memory file pid fault sound (inr first) = absurd (sound first.packet fault first.stands)
 
 -- ---- audio streams, one by one
@@ -204,6 +204,11 @@ module _ (video system : AuditedStream) (none one two three : List AuditedStream
     }
 
 -- ---- the whole
+
+pub video_refused : (kept : KeptUnits) (demuxed : Demuxed) (packets : List PesUnit) (stop : AuditStop) → packets ≡ demuxed.video →
+    (stop ≡ OutOfMemory) ⊎ IsVideoStopped packets stop → AreStreamsStopped kept demuxed stop
+video_refused kept demuxed packets stop same (inl is) = memory is
+video_refused kept demuxed packets stop same (inr is) = bad_video (subst (λ (units : List PesUnit). IsVideoStopped units stop) same is)
 
 pub streams_stopped : (file : List ℕ) (program slot : ℕ) (kept : KeptUnits) (demuxed : Demuxed) (map_pid : ℕ) (clock : FoundClock) (stop : AuditStop) →
     IsProgramRead file program slot demuxed map_pid clock → AreStreamsStopped kept demuxed stop → IsAuditStopped file program slot kept stop

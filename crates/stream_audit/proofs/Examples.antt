@@ -5,7 +5,7 @@ use Rattle.tstd_model.specs.declared.decoder_input.Arrival.{Arrival}
 use Rattle.ts_demux.specs.declared.pid_places.Place.{Place}
 use Rattle.ts_demux.specs.declared.demuxed.PesUnit.{PesUnit}
 use Rattle.stream_audit.specs.Clock.{apart, clock_of, first_off}
-use Rattle.stream_audit.specs.PesBytes.{arrivals_of, parts_carried}
+use Rattle.stream_audit.specs.PesBytes.{brought_by_all, parts_carried}
 use Rattle.stream_audit.specs.Removals.{removed_at}
 
 -- ---- the clock
@@ -63,16 +63,16 @@ abbrev arrival : (slot_no header payload : ℕ) → Arrival
 arrival slot_no header payload = record { slot_no = slot_no; header = header; payload = payload }
 
 -- the first elementary byte isn't kept; a packet without payload comes between
-two_packets : arrivals_of (bare_place 4 11 ∷ bare_place 5 0 ∷ bare_place 9 2 ∷ []) (parts_carried (record { from = 1; to = 3 }) [] (pes_packet ∷ []))
+two_packets : brought_by_all (bare_place 4 11 ∷ bare_place 5 0 ∷ bare_place 9 2 ∷ []) (parts_carried (record { from = 1; to = 3 }) [] (pes_packet ∷ []))
     ≡ arrival 4 10 10 ∷ arrival 5 0 0 ∷ arrival 9 0 2 ∷ []
 unfolding bit bits
 two_packets = refl
 
 -- a header that goes on in the next packet is a header there
-long_header : arrivals_of (bare_place 4 8 ∷ bare_place 5 5 ∷ []) (parts_carried (record { from = 0; to = 3 }) [] (pes_packet ∷ [])) ≡ arrival 4 8 8 ∷ arrival 5 2 5 ∷ []
+long_header : brought_by_all (bare_place 4 8 ∷ bare_place 5 5 ∷ []) (parts_carried (record { from = 0; to = 3 }) [] (pes_packet ∷ [])) ≡ arrival 4 8 8 ∷ arrival 5 2 5 ∷ []
 unfolding bit bits
 long_header = refl
 
 -- bytes that no taken PES packet has
-none_taken : arrivals_of (bare_place 4 8 ∷ []) (parts_carried (record { from = 0; to = 3 }) [] []) ≡ arrival 4 0 0 ∷ []
+none_taken : brought_by_all (bare_place 4 8 ∷ []) (parts_carried (record { from = 0; to = 3 }) [] []) ≡ arrival 4 0 0 ∷ []
 none_taken = refl

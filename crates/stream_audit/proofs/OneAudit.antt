@@ -36,13 +36,8 @@ use Rattle.stream_audit.specs.declared.kept_units.KeptUnits.{KeptUnits}
 use Rattle.stream_audit.specs.Audit.{AreStreamsOf, IsAudited}
 use Rattle.stream_audit.specs.Clock.{IsClockOf, clock_of, first_off}
 use Rattle.stream_audit.specs.Findings.{FindsBy}
-use Rattle.stream_audit.specs.Refusals.{AreTablesSound, IsAuditStopped, IsAudioSound, IsAudioStopped, IsClockStopped, IsFirstAudioStopped, IsProgramRead, IsProgramStopped, IsSystemFault, IsVideoSound, IsVideoStopped, of_demux, of_stream}
-use Rattle.stream_audit.specs.Refusals.IsClockStopped as clocks
-use Rattle.stream_audit.specs.Refusals.IsVideoStopped as videos
-use Rattle.stream_audit.specs.Refusals.IsAudioStopped as audio_stops
-use Rattle.stream_audit.specs.Refusals.IsProgramStopped as programs
-use Rattle.stream_audit.specs.Refusals.IsAuditStopped as audits
-use Rattle.stream_audit.specs.Removals.{AreInTime, first_time, frame_removals, unit_bytes, unit_removals}
+use Rattle.stream_audit.specs.Refusals.{AreTablesSound, IsAuditStopped, IsAudioSound, IsAudioStopped, IsClockStopped, IsFirstAudioStopped, IsProgramRead, IsProgramStopped, IsSystemFault, IsVideoSound, IsVideoStopped, stop_of_demux, stop_of_stream}
+use Rattle.stream_audit.specs.Removals.{AreInTime, first_time, frame_removals, bytes_of_units, unit_removals}
 use Rattle.stream_audit.specs.Streams.{AreAudioStreams, IsAudioStream, IsVideoStream, arrivals_by, system_stream}
 use Rattle.stream_audit.proofs.OneFinding.{one_finding}
 
@@ -87,8 +82,8 @@ system_one file map_pid a b some known (inr first) (inl other) = absurd (sound_o
 system_one file map_pid a b some known (inr first) (inr other) = places_one file map_pid a b some known first.1 other.1
 
 -- a stop that isn't want of memory is of such a fault
-known_of : (stop : AuditStop) (fault : DemuxFault) → stop ≢ stops.OutOfMemory → stop ≡ of_demux fault → Known fault
-known_of stop fault some is wanted = some (is ∙ ap of_demux wanted)
+known_of : (stop : AuditStop) (fault : DemuxFault) → stop ≢ stops.OutOfMemory → stop ≡ stop_of_demux fault → Known fault
+known_of stop fault some is wanted = some (is ∙ ap stop_of_demux wanted)
 
 -- ---- the map's PID and the clock
 
@@ -105,23 +100,23 @@ clock_one file slot pid a b is also =
     same
 
 clock_or_stop : (file : List ℕ) (slot pid : ℕ) (clock : FoundClock) (stop : AuditStop) → stop ≢ stops.OutOfMemory → IsClockOf file slot pid clock → IsClockStopped file slot pid stop → ⊥
-clock_or_stop file slot pid clock stop some is (clocks.no_pid none e) = is.known none
-clock_or_stop file slot pid clock stop some is (clocks.bad_packet fault pid_is bad e) = sound_or_places file pid fault (known_of stop fault some e) is.sound bad
-clock_or_stop file slot pid clock stop some is (clocks.no_reference pid_is sound none e) = let both : None ≡ Some clock.zero = sym none ∙ is.zero_is in cc
+clock_or_stop file slot pid clock stop some is (IsClockStopped.no_pid none e) = is.known none
+clock_or_stop file slot pid clock stop some is (IsClockStopped.bad_packet fault pid_is bad e) = sound_or_places file pid fault (known_of stop fault some e) is.sound bad
+clock_or_stop file slot pid clock stop some is (IsClockStopped.no_reference pid_is sound none e) = let both : None ≡ Some clock.zero = sym none ∙ is.zero_is in cc
 
 clock_stop_one : (file : List ℕ) (slot pid : ℕ) (a b : AuditStop) → a ≢ stops.OutOfMemory → b ≢ stops.OutOfMemory → IsClockStopped file slot pid a → IsClockStopped file slot pid b → a ≡ b
-clock_stop_one file slot pid a b some known (clocks.no_pid none e) (clocks.no_pid also f) = e ∙ sym f
-clock_stop_one file slot pid a b some known (clocks.no_pid none e) (clocks.bad_packet fault there bad f) = absurd (there none)
-clock_stop_one file slot pid a b some known (clocks.no_pid none e) (clocks.no_reference there sound lacks f) = e ∙ sym f
-clock_stop_one file slot pid a b some known (clocks.bad_packet fault there bad e) (clocks.no_pid none f) = absurd (there none)
-clock_stop_one file slot pid a b some known (clocks.bad_packet fault there bad e) (clocks.bad_packet other here worse f) =
-    e ∙ ap of_demux (places_one file pid fault other (known_of a fault some e) (known_of b other known f) bad worse) ∙ sym f
-clock_stop_one file slot pid a b some known (clocks.bad_packet fault there bad e) (clocks.no_reference here sound lacks f) =
+clock_stop_one file slot pid a b some known (IsClockStopped.no_pid none e) (IsClockStopped.no_pid also f) = e ∙ sym f
+clock_stop_one file slot pid a b some known (IsClockStopped.no_pid none e) (IsClockStopped.bad_packet fault there bad f) = absurd (there none)
+clock_stop_one file slot pid a b some known (IsClockStopped.no_pid none e) (IsClockStopped.no_reference there sound lacks f) = e ∙ sym f
+clock_stop_one file slot pid a b some known (IsClockStopped.bad_packet fault there bad e) (IsClockStopped.no_pid none f) = absurd (there none)
+clock_stop_one file slot pid a b some known (IsClockStopped.bad_packet fault there bad e) (IsClockStopped.bad_packet other here worse f) =
+    e ∙ ap stop_of_demux (places_one file pid fault other (known_of a fault some e) (known_of b other known f) bad worse) ∙ sym f
+clock_stop_one file slot pid a b some known (IsClockStopped.bad_packet fault there bad e) (IsClockStopped.no_reference here sound lacks f) =
     absurd (sound_or_places file pid fault (known_of a fault some e) sound bad)
-clock_stop_one file slot pid a b some known (clocks.no_reference there sound lacks e) (clocks.no_pid none f) = e ∙ sym f
-clock_stop_one file slot pid a b some known (clocks.no_reference there sound lacks e) (clocks.bad_packet fault here bad f) =
+clock_stop_one file slot pid a b some known (IsClockStopped.no_reference there sound lacks e) (IsClockStopped.no_pid none f) = e ∙ sym f
+clock_stop_one file slot pid a b some known (IsClockStopped.no_reference there sound lacks e) (IsClockStopped.bad_packet fault here bad f) =
     absurd (sound_or_places file pid fault (known_of b fault known f) sound bad)
-clock_stop_one file slot pid a b some known (clocks.no_reference there sound lacks e) (clocks.no_reference here also none f) = e ∙ sym f
+clock_stop_one file slot pid a b some known (IsClockStopped.no_reference there sound lacks e) (IsClockStopped.no_reference here also none f) = e ∙ sym f
 
 -- ---- what is read before the streams
 
@@ -155,82 +150,82 @@ tables_or_fault file program demuxed map_pid pid fault some tables is (inr bad) 
 
 read_or_stop : (file : List ℕ) (program slot : ℕ) (demuxed : Demuxed) (map_pid : ℕ) (clock : FoundClock) (stop : AuditStop) → stop ≢ stops.OutOfMemory
     → IsProgramRead file program slot demuxed map_pid clock → IsProgramStopped file program slot stop → ⊥
-read_or_stop file program slot demuxed map_pid clock stop some read (programs.long_file long e) = let few = read.tables.file_fits in omega (arith, long, few)
-read_or_stop file program slot demuxed map_pid clock stop some read (programs.no_program fault few refused e) =
+read_or_stop file program slot demuxed map_pid clock stop some read (IsProgramStopped.long_file long e) = let few = read.tables.file_fits in omega (arith, long, few)
+read_or_stop file program slot demuxed map_pid clock stop some read (IsProgramStopped.no_program fault few refused e) =
     out_or_refused file program demuxed fault (known_of stop fault some e) read.tables.taken_out refused
-read_or_stop file program slot demuxed map_pid clock stop some read (programs.bad_tables other pid fault few out is bad e) =
+read_or_stop file program slot demuxed map_pid clock stop some read (IsProgramStopped.bad_tables other pid fault few out is bad e) =
     tables_or_fault file program demuxed map_pid pid fault (known_of stop fault some e) read.tables is bad
-read_or_stop file program slot demuxed map_pid clock stop some read (programs.no_clock other pid tables stopped) =
+read_or_stop file program slot demuxed map_pid clock stop some read (IsProgramStopped.no_clock other pid tables stopped) =
     let same : other ≡ demuxed = one_demuxed file program [] other demuxed tables.taken_out read.tables.taken_out in
     clock_or_stop file slot demuxed.map.pcr_pid clock stop some read.clock_is (subst (λ (d : Demuxed). IsClockStopped file slot d.map.pcr_pid stop) same stopped)
 
 program_stop_one : (file : List ℕ) (program slot : ℕ) (a b : AuditStop) → a ≢ stops.OutOfMemory → b ≢ stops.OutOfMemory → IsProgramStopped file program slot a
     → IsProgramStopped file program slot b → a ≡ b
-program_stop_one file program slot a b some known (programs.long_file long e) (programs.long_file also f) = e ∙ sym f
-program_stop_one file program slot a b some known (programs.long_file long e) (programs.no_program fault few refused f) = absurd (omega (arith, long, few))
-program_stop_one file program slot a b some known (programs.long_file long e) (programs.bad_tables demuxed pid fault few out is bad f) = absurd (omega (arith, long, few))
-program_stop_one file program slot a b some known (programs.long_file long e) (programs.no_clock demuxed pid tables stopped) =
+program_stop_one file program slot a b some known (IsProgramStopped.long_file long e) (IsProgramStopped.long_file also f) = e ∙ sym f
+program_stop_one file program slot a b some known (IsProgramStopped.long_file long e) (IsProgramStopped.no_program fault few refused f) = absurd (omega (arith, long, few))
+program_stop_one file program slot a b some known (IsProgramStopped.long_file long e) (IsProgramStopped.bad_tables demuxed pid fault few out is bad f) = absurd (omega (arith, long, few))
+program_stop_one file program slot a b some known (IsProgramStopped.long_file long e) (IsProgramStopped.no_clock demuxed pid tables stopped) =
     let few = tables.file_fits in absurd (omega (arith, long, few))
-program_stop_one file program slot a b some known (programs.no_program fault few refused e) (programs.long_file long f) = absurd (omega (arith, long, few))
-program_stop_one file program slot a b some known (programs.no_program fault few refused e) (programs.no_program other less also f) =
-    e ∙ ap of_demux (one_refusal file program [] fault other (known_of a fault some e) (known_of b other known f) refused also) ∙ sym f
-program_stop_one file program slot a b some known (programs.no_program fault few refused e) (programs.bad_tables demuxed pid other less out is bad f) =
+program_stop_one file program slot a b some known (IsProgramStopped.no_program fault few refused e) (IsProgramStopped.long_file long f) = absurd (omega (arith, long, few))
+program_stop_one file program slot a b some known (IsProgramStopped.no_program fault few refused e) (IsProgramStopped.no_program other less also f) =
+    e ∙ ap stop_of_demux (one_refusal file program [] fault other (known_of a fault some e) (known_of b other known f) refused also) ∙ sym f
+program_stop_one file program slot a b some known (IsProgramStopped.no_program fault few refused e) (IsProgramStopped.bad_tables demuxed pid other less out is bad f) =
     absurd (out_or_refused file program demuxed fault (known_of a fault some e) out refused)
-program_stop_one file program slot a b some known (programs.no_program fault few refused e) (programs.no_clock demuxed pid tables stopped) =
+program_stop_one file program slot a b some known (IsProgramStopped.no_program fault few refused e) (IsProgramStopped.no_clock demuxed pid tables stopped) =
     absurd (out_or_refused file program demuxed fault (known_of a fault some e) tables.taken_out refused)
-program_stop_one file program slot a b some known (programs.bad_tables demuxed pid fault few out is bad e) (programs.long_file long f) = absurd (omega (arith, long, few))
-program_stop_one file program slot a b some known (programs.bad_tables demuxed pid fault few out is bad e) (programs.no_program other less refused f) =
+program_stop_one file program slot a b some known (IsProgramStopped.bad_tables demuxed pid fault few out is bad e) (IsProgramStopped.long_file long f) = absurd (omega (arith, long, few))
+program_stop_one file program slot a b some known (IsProgramStopped.bad_tables demuxed pid fault few out is bad e) (IsProgramStopped.no_program other less refused f) =
     absurd (out_or_refused file program demuxed other (known_of b other known f) out refused)
-program_stop_one file program slot a b some known (programs.bad_tables demuxed pid fault few out is bad e) (programs.bad_tables one map_pid other less also here worse f) =
+program_stop_one file program slot a b some known (IsProgramStopped.bad_tables demuxed pid fault few out is bad e) (IsProgramStopped.bad_tables one map_pid other less also here worse f) =
     let same : pid ≡ map_pid = map_pid_one file program pid map_pid is here in
-    e ∙ ap of_demux (system_one file map_pid fault other (known_of a fault some e) (known_of b other known f) (subst (λ (p : ℕ). IsSystemFault file p fault) same bad) worse) ∙ sym f
-program_stop_one file program slot a b some known (programs.bad_tables demuxed pid fault few out is bad e) (programs.no_clock one map_pid tables stopped) =
+    e ∙ ap stop_of_demux (system_one file map_pid fault other (known_of a fault some e) (known_of b other known f) (subst (λ (p : ℕ). IsSystemFault file p fault) same bad) worse) ∙ sym f
+program_stop_one file program slot a b some known (IsProgramStopped.bad_tables demuxed pid fault few out is bad e) (IsProgramStopped.no_clock one map_pid tables stopped) =
     absurd (tables_or_fault file program one map_pid pid fault (known_of a fault some e) tables is bad)
-program_stop_one file program slot a b some known (programs.no_clock demuxed pid tables stopped) (programs.long_file long f) =
+program_stop_one file program slot a b some known (IsProgramStopped.no_clock demuxed pid tables stopped) (IsProgramStopped.long_file long f) =
     let few = tables.file_fits in absurd (omega (arith, long, few))
-program_stop_one file program slot a b some known (programs.no_clock demuxed pid tables stopped) (programs.no_program fault few refused f) =
+program_stop_one file program slot a b some known (IsProgramStopped.no_clock demuxed pid tables stopped) (IsProgramStopped.no_program fault few refused f) =
     absurd (out_or_refused file program demuxed fault (known_of b fault known f) tables.taken_out refused)
-program_stop_one file program slot a b some known (programs.no_clock demuxed pid tables stopped) (programs.bad_tables one map_pid fault few out is bad f) =
+program_stop_one file program slot a b some known (IsProgramStopped.no_clock demuxed pid tables stopped) (IsProgramStopped.bad_tables one map_pid fault few out is bad f) =
     absurd (tables_or_fault file program demuxed pid map_pid fault (known_of b fault known f) tables is bad)
-program_stop_one file program slot a b some known (programs.no_clock demuxed pid tables stopped) (programs.no_clock one map_pid also here) =
+program_stop_one file program slot a b some known (IsProgramStopped.no_clock demuxed pid tables stopped) (IsProgramStopped.no_clock one map_pid also here) =
     let same : demuxed ≡ one = one_demuxed file program [] demuxed one tables.taken_out also.taken_out in
     clock_stop_one file slot one.map.pcr_pid a b some known (subst (λ (d : Demuxed). IsClockStopped file slot d.map.pcr_pid a) same stopped) here
 
 -- ---- the video
 
-video_or_stop : (packets : List PesUnit) (stop : AuditStop) → IsVideoSound packets → IsVideoStopped packets stop → ⊥
-video_or_stop packets stop is (videos.bad_packet at found bad e) = sound_or_fault true packets (stream_faults.Pes at found) is.sound bad
-video_or_stop packets stop is (videos.no_sequence sound none e) = let both : None ≡ Some is.from = sym none ∙ is.sequence in cc
+pub video_or_stop : (packets : List PesUnit) (stop : AuditStop) → IsVideoSound packets → IsVideoStopped packets stop → ⊥
+video_or_stop packets stop is (IsVideoStopped.bad_packet at found bad e) = sound_or_fault true packets (stream_faults.Pes at found) is.sound bad
+video_or_stop packets stop is (IsVideoStopped.no_sequence sound none e) = let both : None ≡ Some is.from = sym none ∙ is.sequence in cc
 
 video_stop_one : (packets : List PesUnit) (a b : AuditStop) → IsVideoStopped packets a → IsVideoStopped packets b → a ≡ b
-video_stop_one packets a b (videos.bad_packet at found bad e) (videos.bad_packet to other worse f) =
+video_stop_one packets a b (IsVideoStopped.bad_packet at found bad e) (IsVideoStopped.bad_packet to other worse f) =
     let same : stream_faults.Pes at found ≡ stream_faults.Pes to other = packet_fault_one true packets (stream_faults.Pes at found) (stream_faults.Pes to other) bad worse in
-    e ∙ ap (of_stream 0) same ∙ sym f
-video_stop_one packets a b (videos.bad_packet at found bad e) (videos.no_sequence sound none f) = absurd (sound_or_fault true packets (stream_faults.Pes at found) sound bad)
-video_stop_one packets a b (videos.no_sequence sound none e) (videos.bad_packet at found bad f) = absurd (sound_or_fault true packets (stream_faults.Pes at found) sound bad)
-video_stop_one packets a b (videos.no_sequence sound none e) (videos.no_sequence also lacks f) = e ∙ sym f
+    e ∙ ap (stop_of_stream 0) same ∙ sym f
+video_stop_one packets a b (IsVideoStopped.bad_packet at found bad e) (IsVideoStopped.no_sequence sound none f) = absurd (sound_or_fault true packets (stream_faults.Pes at found) sound bad)
+video_stop_one packets a b (IsVideoStopped.no_sequence sound none e) (IsVideoStopped.bad_packet at found bad f) = absurd (sound_or_fault true packets (stream_faults.Pes at found) sound bad)
+video_stop_one packets a b (IsVideoStopped.no_sequence sound none e) (IsVideoStopped.no_sequence also lacks f) = e ∙ sym f
 
 -- ---- the audio streams
 
-known_stream : (stop : AuditStop) (pid : ℕ) (found : StreamFault) → stop ≢ stops.OutOfMemory → stop ≡ of_stream pid found → found ≢ stream_faults.OutOfMemory
-known_stream stop pid found some is wanted = some (is ∙ ap (of_stream pid) wanted)
+pub known_stream : (stop : AuditStop) (pid : ℕ) (found : StreamFault) → stop ≢ stops.OutOfMemory → stop ≡ stop_of_stream pid found → found ≢ stream_faults.OutOfMemory
+known_stream stop pid found some is wanted = some (is ∙ ap (stop_of_stream pid) wanted)
 
 audio_or_stop : (kept : KeptUnits) (stream : AudioStream) (stop : AuditStop) → stop ≢ stops.OutOfMemory → IsAudioSound kept stream → IsAudioStopped kept stream stop → ⊥
-audio_or_stop kept stream stop some is (audio_stops.unread found refused e) =
+audio_or_stop kept stream stop some is (IsAudioStopped.unread found refused e) =
     refused_or_has (pos (first_time kept)) stream found is.frames (known_stream stop stream.pid found some e) refused is.framed
-audio_or_stop kept stream stop some is (audio_stops.late frames framed late e) =
+audio_or_stop kept stream stop some is (IsAudioStopped.late frames framed late e) =
     late (subst (AreInTime kept) (stream_frames_one (pos (first_time kept)) stream is.frames frames is.framed framed) is.in_time)
 
 audio_stop_one : (kept : KeptUnits) (stream : AudioStream) (a b : AuditStop) → a ≢ stops.OutOfMemory → b ≢ stops.OutOfMemory → IsAudioStopped kept stream a
     → IsAudioStopped kept stream b → a ≡ b
-audio_stop_one kept stream a b some known (audio_stops.unread found refused e) (audio_stops.unread other also f) =
-    e ∙ ap (of_stream stream.pid) (stream_refused_one (pos (first_time kept)) stream found other (known_stream a stream.pid found some e) (known_stream b stream.pid other known f) refused also)
+audio_stop_one kept stream a b some known (IsAudioStopped.unread found refused e) (IsAudioStopped.unread other also f) =
+    e ∙ ap (stop_of_stream stream.pid) (stream_refused_one (pos (first_time kept)) stream found other (known_stream a stream.pid found some e) (known_stream b stream.pid other known f) refused also)
     ∙ sym f
-audio_stop_one kept stream a b some known (audio_stops.unread found refused e) (audio_stops.late frames framed late f) =
+audio_stop_one kept stream a b some known (IsAudioStopped.unread found refused e) (IsAudioStopped.late frames framed late f) =
     absurd (refused_or_has (pos (first_time kept)) stream found frames (known_stream a stream.pid found some e) refused framed)
-audio_stop_one kept stream a b some known (audio_stops.late frames framed late e) (audio_stops.unread found refused f) =
+audio_stop_one kept stream a b some known (IsAudioStopped.late frames framed late e) (IsAudioStopped.unread found refused f) =
     absurd (refused_or_has (pos (first_time kept)) stream found frames (known_stream b stream.pid found known f) refused framed)
-audio_stop_one kept stream a b some known (audio_stops.late frames framed late e) (audio_stops.late others also last f) = e ∙ sym f
+audio_stop_one kept stream a b some known (IsAudioStopped.late frames framed late e) (IsAudioStopped.late others also last f) = e ∙ sym f
 
 -- the first stream that is refused, stream by stream
 abbrev StoppedFrom : KeptUnits → List AudioStream → AuditStop → Type 0
@@ -262,55 +257,55 @@ sound_or_from kept (x ∷ xs) stop some sound (inr later) = sound_or_from kept x
 
 -- ---- what the decoder gets
 
-video_stream_one : (file : List ℕ) (zero : ℕ) (kept : KeptUnits) (pid : ℕ) (packets : List PesUnit) (a b : AuditedStream) → IsVideoStream file zero kept pid packets a
-    → IsVideoStream file zero kept pid packets b → a ≡ b
-video_stream_one file zero kept pid packets a b is also =
+video_stream_one : (file : List ℕ) (start : ℕ) (kept : KeptUnits) (pid : ℕ) (packets : List PesUnit) (a b : AuditedStream) → IsVideoStream file start kept pid packets a
+    → IsVideoStream file start kept pid packets b → a ≡ b
+video_stream_one file start kept pid packets a b is also =
     let both : Some is.from ≡ Some also.from = sym is.sequence ∙ also.sequence in
     let same : is.from ≡ also.from = cc in
     let made : AuditedStream = record {
       pid = pid;
       kind = _;
-      arrivals = arrivals_by (places_on file pid) (record { from = also.from; to = also.from + unit_bytes kept }) (taken true packets);
-      removals = unit_removals zero kept;
+      arrivals = arrivals_by (places_on file pid) (record { from = also.from; to = also.from + bytes_of_units kept }) (taken true packets);
+      removals = unit_removals start kept;
     } in
     let one : a ≡ made = subst (λ (n : ℕ). a ≡ record {
       pid = pid;
       kind = _;
-      arrivals = arrivals_by (places_on file pid) (record { from = n; to = n + unit_bytes kept }) (taken true packets);
-      removals = unit_removals zero kept;
+      arrivals = arrivals_by (places_on file pid) (record { from = n; to = n + bytes_of_units kept }) (taken true packets);
+      removals = unit_removals start kept;
     }) same is.stream_is in
     one ∙ sym also.stream_is
 
-audio_stream_one : (file : List ℕ) (zero : ℕ) (kept : KeptUnits) (audio : AudioStream) (a b : AuditedStream) → IsAudioStream file zero kept audio a
-    → IsAudioStream file zero kept audio b → a ≡ b
-audio_stream_one file zero kept audio a b is also =
+audio_stream_one : (file : List ℕ) (start : ℕ) (kept : KeptUnits) (audio : AudioStream) (a b : AuditedStream) → IsAudioStream file start kept audio a
+    → IsAudioStream file start kept audio b → a ≡ b
+audio_stream_one file start kept audio a b is also =
     let same : is.frames ≡ also.frames = stream_frames_one (pos (first_time kept)) audio is.frames also.frames is.framed also.framed in
     is.stream_is ∙ ap (λ (frames : List Frame). record {
       pid = audio.pid;
       kind = _;
       arrivals = arrivals_by (places_on file audio.pid) (record { from = 0; to = length (joined (taken false audio.units)) }) (taken false audio.units);
-      removals = frame_removals zero kept (taken false audio.units) frames;
+      removals = frame_removals start kept (taken false audio.units) frames;
     }) same ∙ sym also.stream_is
 
-audio_streams_one : (file : List ℕ) (zero : ℕ) (kept : KeptUnits) (audios : List AudioStream) (as bs : List AuditedStream) → AreAudioStreams file zero kept audios as
-    → AreAudioStreams file zero kept audios bs → as ≡ bs
-audio_streams_one file zero kept [] [] [] are also = refl
-audio_streams_one file zero kept [] [] (b ∷ bs) are also = absurd also
-audio_streams_one file zero kept [] (a ∷ as) bs are also = absurd are
-audio_streams_one file zero kept (x ∷ xs) [] bs are also = absurd are
-audio_streams_one file zero kept (x ∷ xs) (a ∷ as) [] are also = absurd also
-audio_streams_one file zero kept (x ∷ xs) (a ∷ as) (b ∷ bs) are also =
-    ap₂ (λ (s : AuditedStream) (ss : List AuditedStream). s ∷ ss) (audio_stream_one file zero kept x a b are.0 also.0) (audio_streams_one file zero kept xs as bs are.1 also.1)
+audio_streams_one : (file : List ℕ) (start : ℕ) (kept : KeptUnits) (audios : List AudioStream) (ones others : List AuditedStream) → AreAudioStreams file start kept audios ones
+    → AreAudioStreams file start kept audios others → ones ≡ others
+audio_streams_one file start kept [] [] [] are also = refl
+audio_streams_one file start kept [] [] (b ∷ others) are also = absurd also
+audio_streams_one file start kept [] (a ∷ ones) others are also = absurd are
+audio_streams_one file start kept (x ∷ xs) [] others are also = absurd are
+audio_streams_one file start kept (x ∷ xs) (a ∷ ones) [] are also = absurd also
+audio_streams_one file start kept (x ∷ xs) (a ∷ ones) (b ∷ others) are also =
+    ap₂ (λ (s : AuditedStream) (ss : List AuditedStream). s ∷ ss) (audio_stream_one file start kept x a b are.0 also.0) (audio_streams_one file start kept xs ones others are.1 also.1)
 
-streams_one : (file : List ℕ) (map_pid zero : ℕ) (kept : KeptUnits) (demuxed : Demuxed) (as bs : List AuditedStream) → AreStreamsOf file map_pid zero kept demuxed as
-    → AreStreamsOf file map_pid zero kept demuxed bs → as ≡ bs
-streams_one file map_pid zero kept demuxed as bs are also =
+streams_one : (file : List ℕ) (map_pid start : ℕ) (kept : KeptUnits) (demuxed : Demuxed) (ones others : List AuditedStream) → AreStreamsOf file map_pid start kept demuxed ones
+    → AreStreamsOf file map_pid start kept demuxed others → ones ≡ others
+streams_one file map_pid start kept demuxed ones others are also =
     let items : are.video ∷ are.others ≡ also.video ∷ also.others = sym are.video_is ∙ also.video_is in
     let video : are.video ≡ also.video = cc in
     let first : are.video_stream ≡ also.video_stream =
-    video_stream_one file zero kept also.video.pid demuxed.video are.video_stream also.video_stream
-    (subst (λ (s : Stream). IsVideoStream file zero kept s.pid demuxed.video are.video_stream) video are.is_video) also.is_video in
-    let audios : are.audio_streams ≡ also.audio_streams = audio_streams_one file zero kept demuxed.audios are.audio_streams also.audio_streams are.are_audio also.are_audio in
+    video_stream_one file start kept also.video.pid demuxed.video are.video_stream also.video_stream
+    (subst (λ (s : Stream). IsVideoStream file start kept s.pid demuxed.video are.video_stream) video are.is_video) also.is_video in
+    let audios : are.audio_streams ≡ also.audio_streams = audio_streams_one file start kept demuxed.audios are.audio_streams also.audio_streams are.are_audio also.are_audio in
     are.streams_are ∙ ap₂ (λ (s : AuditedStream) (ss : List AuditedStream). s ∷ ss ++ system_stream file map_pid ∷ []) first audios ∙ sym also.streams_are
 
 -- ---- the audit
@@ -329,15 +324,15 @@ audit_one file program slot kept one other a b =
 
 audited_or_stopped : (file : List ℕ) (program slot : ℕ) (kept : KeptUnits) (found : Option Finding) (stop : AuditStop) → stop ≢ stops.OutOfMemory
     → IsAudited file program slot kept found → IsAuditStopped file program slot kept stop → ⊥
-audited_or_stopped file program slot kept found stop some is (audits.bad_program stopped) = read_or_stop file program slot is.demuxed is.map_pid is.clock stop some is.read stopped
-audited_or_stopped file program slot kept found stop some is (audits.bad_video demuxed pid clock read stopped) =
+audited_or_stopped file program slot kept found stop some is (IsAuditStopped.bad_program stopped) = read_or_stop file program slot is.demuxed is.map_pid is.clock stop some is.read stopped
+audited_or_stopped file program slot kept found stop some is (IsAuditStopped.bad_video demuxed pid clock read stopped) =
     let same = read_one file program slot demuxed is.demuxed pid is.map_pid clock is.clock read is.read in
     video_or_stop is.demuxed.video stop is.streams_are.video_sound (subst (λ (d : Demuxed). IsVideoStopped d.video stop) same.demuxed_is stopped)
-audited_or_stopped file program slot kept found stop some is (audits.bad_audio demuxed pid clock read video stopped) =
+audited_or_stopped file program slot kept found stop some is (IsAuditStopped.bad_audio demuxed pid clock read video stopped) =
     let same = read_one file program slot demuxed is.demuxed pid is.map_pid clock is.clock read is.read in
     sound_or_from kept is.demuxed.audios stop some is.streams_are.audios_sound
     (stopped_from kept is.demuxed.audios stop (subst (λ (d : Demuxed). IsFirstAudioStopped kept d.audios stop) same.demuxed_is stopped))
-audited_or_stopped file program slot kept found stop some is (audits.memory wanted) = some wanted
+audited_or_stopped file program slot kept found stop some is (IsAuditStopped.memory wanted) = some wanted
 
 -- it isn't both
 pub audit_never_both : (file : List ℕ) (program slot : ℕ) (kept : KeptUnits) (found : Option Finding) (stop : AuditStop) → IsAudited file program slot kept found
@@ -346,29 +341,29 @@ audit_never_both file program slot kept found stop is stopped some = audited_or_
 
 pub audit_stop_one : (file : List ℕ) (program slot : ℕ) (kept : KeptUnits) (a b : AuditStop) → a ≢ stops.OutOfMemory → b ≢ stops.OutOfMemory
     → IsAuditStopped file program slot kept a → IsAuditStopped file program slot kept b → a ≡ b
-audit_stop_one file program slot kept a b some known (audits.memory wanted) other = absurd (some wanted)
-audit_stop_one file program slot kept a b some known (audits.bad_program stopped) (audits.memory wanted) = absurd (known wanted)
-audit_stop_one file program slot kept a b some known (audits.bad_video demuxed pid clock read stopped) (audits.memory wanted) = absurd (known wanted)
-audit_stop_one file program slot kept a b some known (audits.bad_audio demuxed pid clock read video stopped) (audits.memory wanted) = absurd (known wanted)
-audit_stop_one file program slot kept a b some known (audits.bad_program stopped) (audits.bad_program other) = program_stop_one file program slot a b some known stopped other
-audit_stop_one file program slot kept a b some known (audits.bad_program stopped) (audits.bad_video demuxed pid clock read other) =
+audit_stop_one file program slot kept a b some known (IsAuditStopped.memory wanted) other = absurd (some wanted)
+audit_stop_one file program slot kept a b some known (IsAuditStopped.bad_program stopped) (IsAuditStopped.memory wanted) = absurd (known wanted)
+audit_stop_one file program slot kept a b some known (IsAuditStopped.bad_video demuxed pid clock read stopped) (IsAuditStopped.memory wanted) = absurd (known wanted)
+audit_stop_one file program slot kept a b some known (IsAuditStopped.bad_audio demuxed pid clock read video stopped) (IsAuditStopped.memory wanted) = absurd (known wanted)
+audit_stop_one file program slot kept a b some known (IsAuditStopped.bad_program stopped) (IsAuditStopped.bad_program other) = program_stop_one file program slot a b some known stopped other
+audit_stop_one file program slot kept a b some known (IsAuditStopped.bad_program stopped) (IsAuditStopped.bad_video demuxed pid clock read other) =
     absurd (read_or_stop file program slot demuxed pid clock a some read stopped)
-audit_stop_one file program slot kept a b some known (audits.bad_program stopped) (audits.bad_audio demuxed pid clock read video other) =
+audit_stop_one file program slot kept a b some known (IsAuditStopped.bad_program stopped) (IsAuditStopped.bad_audio demuxed pid clock read video other) =
     absurd (read_or_stop file program slot demuxed pid clock a some read stopped)
-audit_stop_one file program slot kept a b some known (audits.bad_video demuxed pid clock read stopped) (audits.bad_program other) =
+audit_stop_one file program slot kept a b some known (IsAuditStopped.bad_video demuxed pid clock read stopped) (IsAuditStopped.bad_program other) =
     absurd (read_or_stop file program slot demuxed pid clock b known read other)
-audit_stop_one file program slot kept a b some known (audits.bad_audio demuxed pid clock read video stopped) (audits.bad_program other) =
+audit_stop_one file program slot kept a b some known (IsAuditStopped.bad_audio demuxed pid clock read video stopped) (IsAuditStopped.bad_program other) =
     absurd (read_or_stop file program slot demuxed pid clock b known read other)
-audit_stop_one file program slot kept a b some known (audits.bad_video demuxed pid clock read stopped) (audits.bad_video other map_pid found also here) =
+audit_stop_one file program slot kept a b some known (IsAuditStopped.bad_video demuxed pid clock read stopped) (IsAuditStopped.bad_video other map_pid found also here) =
     let same = read_one file program slot demuxed other pid map_pid clock found read also in
     video_stop_one other.video a b (subst (λ (d : Demuxed). IsVideoStopped d.video a) same.demuxed_is stopped) here
-audit_stop_one file program slot kept a b some known (audits.bad_video demuxed pid clock read stopped) (audits.bad_audio other map_pid found also video here) =
+audit_stop_one file program slot kept a b some known (IsAuditStopped.bad_video demuxed pid clock read stopped) (IsAuditStopped.bad_audio other map_pid found also video here) =
     let same = read_one file program slot demuxed other pid map_pid clock found read also in
     absurd (video_or_stop other.video a video (subst (λ (d : Demuxed). IsVideoStopped d.video a) same.demuxed_is stopped))
-audit_stop_one file program slot kept a b some known (audits.bad_audio demuxed pid clock read video stopped) (audits.bad_video other map_pid found also here) =
+audit_stop_one file program slot kept a b some known (IsAuditStopped.bad_audio demuxed pid clock read video stopped) (IsAuditStopped.bad_video other map_pid found also here) =
     let same = read_one file program slot demuxed other pid map_pid clock found read also in
     absurd (video_or_stop other.video b (subst (λ (d : Demuxed). IsVideoSound d.video) same.demuxed_is video) here)
-audit_stop_one file program slot kept a b some known (audits.bad_audio demuxed pid clock read video stopped) (audits.bad_audio other map_pid found also sound here) =
+audit_stop_one file program slot kept a b some known (IsAuditStopped.bad_audio demuxed pid clock read video stopped) (IsAuditStopped.bad_audio other map_pid found also sound here) =
     let same = read_one file program slot demuxed other pid map_pid clock found read also in
     from_one kept other.audios a b some known (stopped_from kept other.audios a (subst (λ (d : Demuxed). IsFirstAudioStopped kept d.audios a) same.demuxed_is stopped))
     (stopped_from kept other.audios b here)

@@ -6,7 +6,7 @@ use Rattle.tstd_model.specs.declared.decoder_input.Removal.{Removal}
 use Rattle.tstd_model.specs.Decoder.{DecoderBuffer}
 use Rattle.tstd_model.specs.declared.fault.TstdFault.{TstdFault}
 use Rattle.tstd_model.specs.declared.fault.TstdFault.TheVariants.{Overflow, Late, Old}
-use Rattle.tstd_model.specs.Faults.{FaultGoesBefore, IsFirstFault, IsFirstOrNone, instant_of}
+use Rattle.tstd_model.specs.Faults.{FaultGoesBefore, IsEarliestFault, IsFirstOrNone, instant_of}
 use Rattle.stream_audit.specs.declared.audited_stream.AuditedStream.{AuditedStream}
 use Rattle.stream_audit.specs.declared.finding.Finding.{Finding}
 use Rattle.stream_audit.specs.Findings.{FindsBy, FindsFirst, FindsOn, finding_of, full_finding}
@@ -29,8 +29,8 @@ both_ways removals (Old at) (Overflow to) same front back = absurd front
 both_ways removals (Old at) (Old to) same front back = ap Old same
 
 -- a decoder has one first fault
-one_fault : (slot : ℕ) (kind : BufferKind) (arrivals : List Arrival) (removals : List Removal) (one other : TstdFault) → IsFirstFault slot kind arrivals removals one
-    → IsFirstFault slot kind arrivals removals other → one ≡ other
+one_fault : (slot : ℕ) (kind : BufferKind) (arrivals : List Arrival) (removals : List Removal) (one other : TstdFault) → IsEarliestFault slot kind arrivals removals one
+    → IsEarliestFault slot kind arrivals removals other → one ≡ other
 one_fault slot kind arrivals removals one other a b = by_order (a.first other b.there) (b.first one a.there)
   where
     by_order : (instant_of removals one < instant_of removals other) ⊎ ((instant_of removals one ≡ instant_of removals other) × FaultGoesBefore one other)

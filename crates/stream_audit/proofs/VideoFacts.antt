@@ -14,10 +14,10 @@ use Rattle.stream_audit.specs.declared.audited_stream.AuditedStream.{AuditedStre
 use Rattle.stream_audit.specs.declared.kept_units.KeptUnits.{KeptUnits}
 use Rattle.elementary_streams.specs.declared.pes_packets.PlacedPacket.{PlacedPacket}
 use Rattle.elementary_streams.specs.declared.pes_packets.TakenPackets.{TakenPackets}
-use Rattle.stream_audit.specs.PesBytes.{arrivals_of, bytes_before, parts_of_packets}
+use Rattle.stream_audit.specs.PesBytes.{brought_by_all, bytes_before, parts_of_packets}
 use Rattle.elementary_streams.specs.Packets.{IsPacketFault, joined, taken}
-use Rattle.stream_audit.specs.Refusals.{IsVideoStopped, of_stream}
-use Rattle.stream_audit.specs.Removals.{unit_bytes, unit_removals}
+use Rattle.stream_audit.specs.Refusals.{IsVideoStopped, stop_of_stream}
+use Rattle.stream_audit.specs.Removals.{bytes_of_units, unit_removals}
 use Rattle.stream_audit.specs.Streams.{IsVideoOf}
 use Rattle.elementary_streams.specs.Taken.{AreTaken}
 use Rattle.elementary_streams.proofs.StreamLemmas.{placed_count, taken_count}
@@ -39,25 +39,25 @@ sequence_is packets held payload found are payload_is found_is = ap first_sequen
 
 -- what refuses its PES packets
 pub video_stopped : (pid : ℕ) (packets : List PesUnit) (found : StreamFault) (stop : AuditStop) → (found ≡ stream_faults.OutOfMemory) ⊎ IsPacketFault true packets found
-    → stop ≡ of_stream pid found → (stop ≡ OutOfMemory) ⊎ IsVideoStopped packets stop
-video_stopped pid packets found stop (inl memory) said = inl (said ∙ ap (of_stream pid) memory)
+    → stop ≡ stop_of_stream pid found → (stop ≡ OutOfMemory) ⊎ IsVideoStopped packets stop
+video_stopped pid packets found stop (inl memory) said = inl (said ∙ ap (stop_of_stream pid) memory)
 video_stopped pid packets found stop (inr is) said =
-    inr (IsVideoStopped.bad_packet is.packet.at is.found (subst (IsPacketFault true packets) is.fault_is is) (said ∙ ap (of_stream pid) is.fault_is))
+    inr (IsVideoStopped.bad_packet is.packet.at is.found (subst (IsPacketFault true packets) is.fault_is is) (said ∙ ap (stop_of_stream pid) is.fault_is))
 
 pub is_video : (places : List Place) (zero pid before from bytes : ℕ) (kept : KeptUnits) (packets front : List PesUnit) (stream : AuditedStream) →
-    first_sequence (joined (taken true packets)) ≡ Some from → before ≡ bytes_before places → bytes ≡ unit_bytes kept → front ≡ taken true packets →
+    first_sequence (joined (taken true packets)) ≡ Some from → before ≡ bytes_before places → bytes ≡ bytes_of_units kept → front ≡ taken true packets →
     stream ≡ record {
       pid = pid;
       kind = Video kept.vbv;
-      arrivals = arrivals_of places (replicate before Overhead ++ parts_of_packets (record { from = from; to = from + bytes }) 0 front);
+      arrivals = brought_by_all places (replicate before Overhead ++ parts_of_packets (record { from = from; to = from + bytes }) 0 front);
       removals = unit_removals zero kept;
     } → IsVideoOf places zero kept pid packets stream
 is_video places zero pid before from bytes kept packets front stream sequence before_is bytes_are front_is is = record {
   from = from;
   sequence = sequence;
   stream_is = is ∙ ap (λ (arrivals : List Arrival). (let s : AuditedStream = record { pid = pid; kind = Video kept.vbv; arrivals = arrivals; removals = unit_removals zero kept } in s)) (
-      ap (λ (n : ℕ). arrivals_of places (replicate n Overhead ++ parts_of_packets (record { from = from; to = from + bytes }) 0 front)) before_is
-      ∙ ap (λ (n : ℕ). arrivals_of places (replicate (bytes_before places) Overhead ++ parts_of_packets (record { from = from; to = from + n }) 0 front)) bytes_are
-      ∙ ap (λ (ps : List PesUnit). arrivals_of places (replicate (bytes_before places) Overhead ++ parts_of_packets (record { from = from; to = from + unit_bytes kept }) 0 ps)) front_is
+      ap (λ (n : ℕ). brought_by_all places (replicate n Overhead ++ parts_of_packets (record { from = from; to = from + bytes }) 0 front)) before_is
+      ∙ ap (λ (n : ℕ). brought_by_all places (replicate (bytes_before places) Overhead ++ parts_of_packets (record { from = from; to = from + n }) 0 front)) bytes_are
+      ∙ ap (λ (ps : List PesUnit). brought_by_all places (replicate (bytes_before places) Overhead ++ parts_of_packets (record { from = from; to = from + bytes_of_units kept }) 0 ps)) front_is
       );
 }

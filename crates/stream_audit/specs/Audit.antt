@@ -10,7 +10,7 @@ use Rattle.stream_audit.specs.declared.finding.Finding.{Finding}
 use Rattle.stream_audit.specs.declared.kept_units.KeptUnits.{KeptUnits}
 use Rattle.stream_audit.specs.Findings.{FindsBy}
 use Rattle.stream_audit.specs.Refusals.{IsAudioSound, IsProgramRead, IsVideoSound}
-use Rattle.stream_audit.specs.Removals.{unit_bytes}
+use Rattle.stream_audit.specs.Removals.{bytes_of_units}
 use Rattle.stream_audit.specs.Streams.{AreAudioStreams, IsVideoStream, system_stream}
 
 -- ---- what an audit is handed
@@ -19,7 +19,7 @@ use Rattle.stream_audit.specs.Streams.{AreAudioStreams, IsVideoStream, system_st
 pub record AreAuditable (kept : KeptUnits) : Type 0 where
   pub in_level : kept.vbv ≤ VBV_MOST
   pub few : length kept.units < 2 ^ 32
-  pub few_bytes : unit_bytes kept < 2 ^ 63
+  pub few_bytes : bytes_of_units kept < 2 ^ 63
   pub dues_fit : All (λ unit. unit.due ≤ 2 ^ 52) kept.units
   pub dues_rise : IsNonDecreasing (map (λ unit. unit.due) kept.units)
 

@@ -44,16 +44,16 @@ parts_carried span places packets = replicate (bytes_before places) Overhead ++ 
 -- ---- the transport packets that bring them
 
 -- a byte of a PES header
-abbrev pub is_header : PacketPart → Bool
-is_header Overhead = false
-is_header PesHeader = true
-is_header Data = false
+abbrev pub is_pes_header : PacketPart → Bool
+is_pes_header Overhead = false
+is_pes_header PesHeader = true
+is_pes_header Data = false
 
 -- A packet comes to a decoder in its slot, with these bytes: behind TB go those of PES headers and then the elementary ones.
-abbrev pub arrival_of : Place → List PacketPart → Arrival
-arrival_of place parts = record { slot_no = place.packet; header = count_by is_header parts; payload = count_by is_payload parts }
+abbrev pub brought_by : Place → List PacketPart → Arrival
+brought_by place parts = record { slot_no = place.packet; header = count_by is_pes_header parts; payload = count_by is_payload parts }
 
 -- packets come, whose payloads one behind the other have these bytes
-abbrev pub arrivals_of : List Place → List PacketPart → List Arrival
-arrivals_of [] parts = []
-arrivals_of (place ∷ places) parts = arrival_of place (take place.payload parts) ∷ arrivals_of places (drop place.payload parts)
+abbrev pub brought_by_all : List Place → List PacketPart → List Arrival
+brought_by_all [] parts = []
+brought_by_all (place ∷ places) parts = brought_by place (take place.payload parts) ∷ brought_by_all places (drop place.payload parts)

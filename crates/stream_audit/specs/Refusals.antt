@@ -28,9 +28,9 @@ use Rattle.stream_audit.specs.declared.audit_stop.AuditStop.TheVariants as stops
 -- ---- packets
 
 -- a fault of packets or sections, or memory that was wanted for them
-abbrev pub of_demux : DemuxFault → AuditStop
-of_demux demux_faults.OutOfMemory = stops.OutOfMemory
-of_demux fault = Demux fault
+abbrev pub stop_of_demux : DemuxFault → AuditStop
+stop_of_demux demux_faults.OutOfMemory = stops.OutOfMemory
+stop_of_demux fault = Demux fault
 
 -- The first packet that is refused for PID 0, or where none is the first one that is refused for the PID of the map; or memory was wanted.
 abbrev pub IsSystemFault : List ℕ → (map_pid : ℕ) → DemuxFault → Type 0
@@ -42,16 +42,16 @@ IsSystemFault file map_pid fault = IsPlacesFault file pat_pid fault ⊎ (AreStre
 -- for it, or memory that was wanted; else it has no reference.
 pub data IsClockStopped (file : List ℕ) (slot pid : ℕ) (stop : AuditStop) : Type 0 where
   no_pid : pid ≡ NULL_PID → stop ≡ NoPcr → IsClockStopped file slot pid stop
-  bad_packet : (fault : DemuxFault) → pid ≢ NULL_PID → IsPlacesFault file pid fault → stop ≡ of_demux fault → IsClockStopped file slot pid stop
+  bad_packet : (fault : DemuxFault) → pid ≢ NULL_PID → IsPlacesFault file pid fault → stop ≡ stop_of_demux fault → IsClockStopped file slot pid stop
   no_reference : pid ≢ NULL_PID → AreStreamsSound file (pid ∷ []) → clock_of slot (places_on file pid) ≡ None → stop ≡ NoPcr → IsClockStopped file slot pid stop
 
 -- ---- elementary streams
 
 -- a fault of the stream on a PID
-abbrev pub of_stream : (pid : ℕ) → StreamFault → AuditStop
-of_stream pid (stream_faults.Pes at found) = Pes at found
-of_stream pid (stream_faults.Frames found) = Audio pid found
-of_stream pid stream_faults.OutOfMemory = stops.OutOfMemory
+abbrev pub stop_of_stream : (pid : ℕ) → StreamFault → AuditStop
+stop_of_stream pid (stream_faults.Pes at found) = Pes at found
+stop_of_stream pid (stream_faults.Frames found) = Audio pid found
+stop_of_stream pid stream_faults.OutOfMemory = stops.OutOfMemory
 
 -- ---- video
 
@@ -77,7 +77,7 @@ pub record IsAudioSound (kept : KeptUnits) (stream : AudioStream) : Type 0 where
 
 -- What refuses an audio stream of a program with these units: its PES packets or its frames, else a frame that is due later.
 pub data IsAudioStopped (kept : KeptUnits) (stream : AudioStream) (stop : AuditStop) : Type 0 where
-  unread : (found : StreamFault) → IsStreamRefused (pos (first_time kept)) stream found → stop ≡ of_stream stream.pid found → IsAudioStopped kept stream stop
+  unread : (found : StreamFault) → IsStreamRefused (pos (first_time kept)) stream found → stop ≡ stop_of_stream stream.pid found → IsAudioStopped kept stream stop
   late : (frames : List Frame) → HasFrames (pos (first_time kept)) stream frames → (AreInTime kept frames → ⊥) → stop ≡ ProgramLimit → IsAudioStopped kept stream stop
 
 -- The first one of some audio streams that is refused; those before it aren't.
@@ -107,9 +107,9 @@ pub record IsProgramRead (file : List ℕ) (program slot : ℕ) (demuxed : Demux
 -- What refuses that: first a long file, then what refuses to take the program out, then the packets of PID 0 and of the map's PID, and then the clock.
 pub data IsProgramStopped (file : List ℕ) (program slot : ℕ) (stop : AuditStop) : Type 0 where
   long_file : AUDITED_BYTES_MOST < length file → stop ≡ ProgramLimit → IsProgramStopped file program slot stop
-  no_program : (fault : DemuxFault) → length file ≤ AUDITED_BYTES_MOST → IsDemuxRefused file program [] fault → stop ≡ of_demux fault → IsProgramStopped file program slot stop
+  no_program : (fault : DemuxFault) → length file ≤ AUDITED_BYTES_MOST → IsDemuxRefused file program [] fault → stop ≡ stop_of_demux fault → IsProgramStopped file program slot stop
   bad_tables : (demuxed : Demuxed) (map_pid : ℕ) (fault : DemuxFault) → length file ≤ AUDITED_BYTES_MOST → IsDemuxed file program [] demuxed
-      → IsMapPid file program map_pid → IsSystemFault file map_pid fault → stop ≡ of_demux fault → IsProgramStopped file program slot stop
+      → IsMapPid file program map_pid → IsSystemFault file map_pid fault → stop ≡ stop_of_demux fault → IsProgramStopped file program slot stop
   no_clock : (demuxed : Demuxed) (map_pid : ℕ) → AreTablesSound file program demuxed map_pid → IsClockStopped file slot demuxed.map.pcr_pid stop
       → IsProgramStopped file program slot stop
 

@@ -28,8 +28,8 @@ abbrev pub unit_removals : (clock_zero : ℕ) → KeptUnits → List Removal
 unit_removals clock_zero kept = map (λ unit. record { due = removed_at clock_zero kept.base (pos unit.due); bytes = unit.bytes }) kept.units
 
 -- the bytes of all units
-abbrev pub unit_bytes : KeptUnits → ℕ
-unit_bytes kept = sum_by (λ unit. unit.bytes) kept.units
+abbrev pub bytes_of_units : KeptUnits → ℕ
+bytes_of_units kept = sum_by (λ unit. unit.bytes) kept.units
 
 -- ---- audio
 

@@ -14,14 +14,14 @@ use Rattle.ts_demux.specs.PidPlaces.{place_at, places_on}
 use Rattle.ts_demux.specs.Tables.{pat_pid}
 use Rattle.stream_audit.specs.declared.audited_stream.AuditedStream.{AuditedStream}
 use Rattle.stream_audit.specs.declared.kept_units.KeptUnits.{KeptUnits}
-use Rattle.stream_audit.specs.PesBytes.{KeptSpan, arrivals_of, parts_carried}
+use Rattle.stream_audit.specs.PesBytes.{KeptSpan, brought_by_all, parts_carried}
 use Rattle.elementary_streams.specs.Packets.{joined, taken}
 use Rattle.elementary_streams.specs.Audio.{HasFrames}
-use Rattle.stream_audit.specs.Removals.{first_time, frame_removals, unit_bytes, unit_removals}
+use Rattle.stream_audit.specs.Removals.{first_time, frame_removals, bytes_of_units, unit_removals}
 
 -- packets that carry these PES packets, and of the elementary stream in them those bytes that are kept
 abbrev pub arrivals_by : List Place → KeptSpan → List PesUnit → List Arrival
-arrivals_by places span packets = arrivals_of places (parts_carried span places packets)
+arrivals_by places span packets = brought_by_all places (parts_carried span places packets)
 
 -- The video, whose packets on its PID are these: its PES packets that are taken, of which the units are kept from the first sequence header on.
 pub record IsVideoOf (places : List Place) (zero : ℕ) (kept : KeptUnits) (pid : ℕ) (packets : List PesUnit) (stream : AuditedStream) : Type 0 where
@@ -30,7 +30,7 @@ pub record IsVideoOf (places : List Place) (zero : ℕ) (kept : KeptUnits) (pid 
   pub stream_is : stream ≡ record {
     pid = pid;
     kind = Video kept.vbv;
-    arrivals = arrivals_by places (record { from = from; to = from + unit_bytes kept }) (taken true packets);
+    arrivals = arrivals_by places (record { from = from; to = from + bytes_of_units kept }) (taken true packets);
     removals = unit_removals zero kept;
   }
 

@@ -2,7 +2,7 @@
 ghost use Rattle.std.specs.Prelude.{◌≡◌, ◌<◌, ◌≤◌, ◌^◌, All, IfOk, map};
 ghost use Rattle.stream_constants.specs.declared.packets.TheConstants.{PACKET_BYTES};
 ghost use Rattle.tstd_model.specs.PacketBytes.{HasHeaderWithin};
-ghost use Rattle.stream_audit.specs.PesBytes.{arrivals_of};
+ghost use Rattle.stream_audit.specs.PesBytes.{brought_by_all};
 
 use crate::pes_parts::PesParts;
 use list_types::{ListOf, OutOfMemory};
@@ -19,7 +19,7 @@ pub fn arrivals_in<'a>(
 ) -> Result<ListOf<Arrival>, OutOfMemory>
     requires few { All (λ place. place.packet < 2 ^ 32) places.now }
     requires payloads { All (λ place. place.payload ≤ PACKET_BYTES) places.now }
-    ensures arrivals { IfOk result (λ arrivals. arrivals ≡ arrivals_of places.now parts.entry) }
+    ensures arrivals { IfOk result (λ arrivals. arrivals ≡ brought_by_all places.now parts.entry) }
     // What the judge of buffers asks of them.
     ensures slots { IfOk result (λ arrivals. map (λ arrival. arrival.slot_no) arrivals ≡ map (λ place. place.packet) places.now) }
     ensures headers { IfOk result (λ arrivals. All HasHeaderWithin arrivals) }

@@ -1,5 +1,5 @@
 ghost use Rattle.std.specs.Prelude.{◌≡◌};
-ghost use Rattle.stream_audit.specs.Refusals.{of_demux, of_stream};
+ghost use Rattle.stream_audit.specs.Refusals.{stop_of_demux, stop_of_stream};
 
 use audio_frames::AudioFault;
 use elementary_streams::StreamFault;
@@ -59,7 +59,7 @@ impl From<AllocError> for AuditStop {
 
 /// What stops an audit for a fault of packets or sections, or for memory that was wanted for them.
 pub(crate) fn demux_stop(fault: DemuxFault) -> AuditStop
-    ensures { result ≡ of_demux fault }
+    ensures { result ≡ stop_of_demux fault }
 {
     match fault {
         DemuxFault::OutOfMemory => AuditStop::OutOfMemory,
@@ -69,7 +69,7 @@ pub(crate) fn demux_stop(fault: DemuxFault) -> AuditStop
 
 /// What stops an audit for a fault of the stream on a PID.
 pub(crate) fn stream_stop(pid: u16, fault: StreamFault) -> AuditStop
-    ensures { result ≡ of_stream pid fault }
+    ensures { result ≡ stop_of_stream pid fault }
 {
     match fault {
         StreamFault::Pes { at, fault } => AuditStop::Pes { at, fault },

@@ -5,7 +5,7 @@ ghost use Rattle.stream_constants.specs.declared.main_level.TheConstants.{VBV_MO
 ghost use Rattle.stream_constants.specs.declared.packets.TheConstants.{PACKET_BYTES};
 ghost use Rattle.tstd_model.specs.declared.decoder_input.BufferKind.TheVariants.{Video};
 ghost use Rattle.stream_audit.specs.Findings.{CanBeJudged};
-ghost use Rattle.stream_audit.specs.PesBytes.{arrivals_of};
+ghost use Rattle.stream_audit.specs.PesBytes.{brought_by_all};
 ghost use Rattle.stream_audit.specs.Removals.{unit_removals};
 
 use crate::arrivals::arrivals_in;
@@ -35,7 +35,7 @@ pub fn video_stream<'a>(
     requires few_packets { All (λ place. place.packet < 2 ^ 32) places.now }
     requires payloads { All (λ place. place.payload ≤ PACKET_BYTES) places.now }
     requires packets_rise { IsStrictlyIncreasing (map (λ place. place.packet) places.now) }
-    ensures stream { IfOk result (λ stream. stream ≡ record { pid = pid; kind = Video kept.now.vbv; arrivals = arrivals_of places.now parts.entry; removals = unit_removals zero kept.now }) }
+    ensures stream { IfOk result (λ stream. stream ≡ record { pid = pid; kind = Video kept.now.vbv; arrivals = brought_by_all places.now parts.entry; removals = unit_removals zero kept.now }) }
     ensures judged { IfOk result CanBeJudged }
 {
     let arrivals = arrivals_in(alloc, places, parts)?;

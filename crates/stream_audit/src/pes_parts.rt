@@ -3,7 +3,7 @@ ghost use Rattle.std.specs.Prelude.{◌≡◌, ◌+◌, ◌-◌, ◌<◌, ◌≤
 ghost use Rattle.pes_units.specs.PesHeader.{header_length};
 ghost use Rattle.tstd_model.specs.declared.decoder_input.PacketPart.TheVariants.{Overhead};
 ghost use Rattle.tstd_model.specs.PacketBytes.{is_payload};
-ghost use Rattle.stream_audit.specs.PesBytes.{arrival_of, is_header, part_at, parts_of_packets};
+ghost use Rattle.stream_audit.specs.PesBytes.{brought_by, is_pes_header, part_at, parts_of_packets};
 ghost use Rattle.stream_audit.specs.Private.PesParts.{GivesPart, span_of};
 
 use std::marker::Model;
@@ -117,7 +117,7 @@ impl<'a> PesParts<'a> {
 
     /// What the next bytes are, so many of them, as far as there are some.
     fn take_counts(&mut self, count: u8) -> PartCounts
-        ensures header { result.header ≡ count_by is_header (take count self.old) }
+        ensures header { result.header ≡ count_by is_pes_header (take count self.old) }
         ensures payload { result.payload ≡ count_by is_payload (take count self.old) }
         ensures rest { self.new ≡ drop count self.old }
     {
@@ -144,7 +144,7 @@ impl<'a> PesParts<'a> {
     /// What the next transport packet of the PID brings to the decoder.
     pub fn arrival(&mut self, place: &Place) -> Arrival
         requires { place.now.packet < 2 ^ 32 }
-        ensures arrival { result ≡ arrival_of place.now (take place.now.payload self.old) }
+        ensures arrival { result ≡ brought_by place.now (take place.now.payload self.old) }
         ensures rest { self.new ≡ drop place.now.payload self.old }
     {
         let counts = self.take_counts(place.payload);

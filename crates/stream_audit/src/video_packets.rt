@@ -6,7 +6,7 @@ ghost use Rattle.stream_constants.specs.declared.packets.TheConstants.{PACKET_BY
 ghost use Rattle.stream_audit.specs.declared.audit_stop.AuditStop.TheVariants.{OutOfMemory};
 ghost use Rattle.stream_audit.specs.Findings.{CanBeJudged};
 ghost use Rattle.stream_audit.specs.Refusals.{IsVideoSound, IsVideoStopped};
-ghost use Rattle.stream_audit.specs.Removals.{unit_bytes};
+ghost use Rattle.stream_audit.specs.Removals.{bytes_of_units};
 ghost use Rattle.stream_audit.specs.Streams.{IsVideoOf};
 
 use crate::audit_stop::{AuditStop, stream_stop};
@@ -21,9 +21,9 @@ use std::alloc::Global;
 use ts_demux::{PesUnit, Place};
 
 /// The bytes of all units.
-fn unit_bytes(kept: &KeptUnits) -> u64
-    requires { unit_bytes kept.now < 2 ^ 63 }
-    ensures { result ≡ unit_bytes kept.now }
+fn bytes_of_units(kept: &KeptUnits) -> u64
+    requires { bytes_of_units kept.now < 2 ^ 63 }
+    ensures { result ≡ bytes_of_units kept.now }
 {
     let mut bytes = 0;
     for unit in kept.units.as_slice() {
@@ -45,7 +45,7 @@ pub fn video_of(
 ) -> Result<AuditedStream, AuditStop>
     requires in_level { kept.now.vbv ≤ VBV_MOST }
     requires few_units { length kept.now.units < 2 ^ 32 }
-    requires few_bytes { unit_bytes kept.now < 2 ^ 63 }
+    requires few_bytes { bytes_of_units kept.now < 2 ^ 63 }
     requires dues_fit { All (λ unit. unit.due ≤ 2 ^ 52) kept.now.units }
     requires dues_rise { IsNonDecreasing (map (λ unit. unit.due) kept.now.units) }
     requires few_packets { length places.now ≤ 2 ^ 32 }
@@ -66,7 +66,7 @@ pub fn video_of(
     };
     let kept_bytes = KeptBytes {
         skipped: from as u64,
-        kept: unit_bytes(kept),
+        kept: bytes_of_units(kept),
     };
     let count = taken.packets.as_slice().len();
     let first = front(packets, count);

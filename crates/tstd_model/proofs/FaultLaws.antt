@@ -27,7 +27,7 @@ use Rattle.tstd_model.specs.Decoder.{
   is_removed,
   completes,
 }
-use Rattle.tstd_model.specs.Faults.{TstdFault, Overflow, Late, Old, Overflows, FindsLess, HeldPastLimit, hold_subticks, IsFault, instant_of, FaultGoesBefore, IsFirstFault, IsFirstOrNone}
+use Rattle.tstd_model.specs.Faults.{TstdFault, Overflow, Late, Old, Overflows, FindsLess, HeldPastLimit, hold_subticks, IsFault, instant_of, FaultGoesBefore, IsEarliestFault, IsFirstOrNone}
 use Rattle.tstd_model.specs.Private.Scans.{RemovedByte}
 use Rattle.tstd_model.specs.Private.Server.{Spaced}
 use Rattle.tstd_model.specs.Private.Walks.{main_buffer, first_excess, earlier, excess_found, late_found, old_found, NotAfter, Before, BeforeByte, IsEarliest}
@@ -255,7 +255,7 @@ module _ (slot : ℕ) (kind : BufferKind) (arrivals : List Arrival) (removals : 
       none_at_all (Old x) held = subst (IsLeast (HeldPastLimit slot kind arrivals removals)) none.2 is_old x held
   earliest-is (Some (Late number)) first =
       let is = subst (IsFirstLate (completes slot kind arrivals removals) removals) first.1 is_late in
-      subst (λ n. IsFirstFault slot kind arrivals removals (Late n)) first.2
+      subst (λ n. IsEarliestFault slot kind arrivals removals (Late n)) first.2
       (record { there = less_from_short slot kind arrivals removals first.0.removal is.0; first = after_late first.0 is first.3 first.4 })
   earliest-is (Some (Overflow at)) first =
       let is = least-there (Overflows slot kind arrivals removals) over at is_over first.0 in

@@ -59,7 +59,7 @@ FaultGoesBefore (Old at) (Overflow other) = ⊥
 FaultGoesBefore (Old at) (Old other) = Unit {0}
 
 -- the fault is there, and each fault is later, or at the same instant and said after it
-pub record IsFirstFault (slot : ℕ) (kind : BufferKind) (arrivals : List Arrival) (removals : List Removal) (fault : TstdFault) : Type 0 where
+pub record IsEarliestFault (slot : ℕ) (kind : BufferKind) (arrivals : List Arrival) (removals : List Removal) (fault : TstdFault) : Type 0 where
   pub there : IsFault slot kind arrivals removals fault
   pub first : (other : TstdFault) → IsFault slot kind arrivals removals other
       → (instant_of removals fault < instant_of removals other)
@@ -67,5 +67,5 @@ pub record IsFirstFault (slot : ℕ) (kind : BufferKind) (arrivals : List Arriva
 
 -- the first fault, or none where there is none
 abbrev pub IsFirstOrNone : (slot : ℕ) → BufferKind → List Arrival → List Removal → Option TstdFault → Type 0
-IsFirstOrNone slot kind arrivals removals (Some fault) = IsFirstFault slot kind arrivals removals fault
+IsFirstOrNone slot kind arrivals removals (Some fault) = IsEarliestFault slot kind arrivals removals fault
 IsFirstOrNone slot kind arrivals removals None = (fault : TstdFault) → IsFault slot kind arrivals removals fault → ⊥

@@ -1,7 +1,7 @@
 use Rattle.std.proofs.Common.{◌≡◌, ℕ, ℤ, pos, ◌+◌, ◌/◌, ◌%◌, length, ap, refl, sym, subst, ◌∙◌}
 use Rattle.stream_constants.specs.declared.clock.TheConstants.{TICKS_PER_TIME_UNIT}
 use Rattle.pcr_writer.specs.declared.pcr.TheConstants.{PCR_MODULUS}
-use Rattle.stream_audit.specs.PesBytes.{arrivals_of}
+use Rattle.stream_audit.specs.PesBytes.{brought_by_all}
 use Rattle.stream_audit.specs.Private.FrameRemovals.{AreChained}
 use Rattle.stream_audit.proofs.AudioFacts.{audio_judged, audio_late, audio_sound, audio_unread, frames_fall, front_few, front_taken, is_audio, read_chained, read_climb, read_headers, read_lengths, read_places}
 use Rattle.stream_audit.proofs.audited_audio.audio_stream.Goals as goal
@@ -45,7 +45,7 @@ returns-clause-stream c =
     is_audio c.of-before.result.time c.args.zero c.in-Ok.read.bytes c.bytes_before.result c.args.kept.now c.args.places.now c.args.stream.now c.in-Ok.read c.new-clock.result
     c.front-taken.result.now c.as_slice-placed.result.now c.as_slice-timed.result.now c.in_ok-arrivals.arrivals c.in_ok-removals.removals c.in-Ok.ensures first_is refl c.bytes_before.ensures
     c.new-clock.ensures.zero c.new-clock.ensures.base c.new-clock.ensures.offset front_is c.as_slice-placed.ensures.value c.as_slice-timed.ensures
-    (c.in_ok-arrivals.ensures.arrivals ∙ ap (λ parts. arrivals_of c.args.places.now parts) c.new-parts.ensures) c.in_ok-removals.ensures.removals
+    (c.in_ok-arrivals.ensures.arrivals ∙ ap (λ parts. brought_by_all c.args.places.now parts) c.new-parts.ensures) c.in_ok-removals.ensures.removals
 
 pub returns-clause-judged : goal.returns-clause-judged
 returns-clause-judged c =

@@ -1,6 +1,6 @@
 use Rattle.std.proofs.Common.{[], ◌∷◌, sym, subst}
 use Rattle.ts_demux.specs.Demux.{AreStreamsSound}
-use Rattle.stream_audit.proofs.AuditLaws.{all_judged, are_streams}
+use Rattle.stream_audit.proofs.AuditLaws.{all_judged, are_streams, video_refused}
 use Rattle.stream_audit.proofs.streams_of.streams_of.Goals as goal
 
 pub video_in-requires-clause-sound : goal.video_in-requires-clause-sound
@@ -20,3 +20,7 @@ pub returns-clause-judged : goal.returns-clause-judged
 returns-clause-judged c =
     all_judged c.in-Ok.video c.args.system c.new-streams.result c.push.new.self c.add_audios.new.streams c.push-2.new.self c.new-streams.ensures c.in_ok-push.ensures.ok
     c.in_ok-push-2.ensures.ok c.in-Ok.ensures.judged c.requires.system c.in-Ok-add_audios.ensures.judged
+
+pub returns-in-Err-clause-refused : goal.returns-in-Err-clause-refused
+returns-in-Err-clause-refused c =
+    video_refused c.args.kept.now c.args.demuxed.now c.as_slice.result.now c.in-Err.stop c.as_slice.ensures c.in-Err.ensures.refused

@@ -7,7 +7,7 @@ use Rattle.elementary_streams.specs.Packets.{joined}
 use Rattle.program_reader.specs.Programs.{video_bytes}
 use Rattle.program_reader.specs.Sizes.{AreUnitSizes}
 use Rattle.program_reader.specs.VideoWalk.{AreFew, wanted_of}
-use Rattle.program_reader.proofs.WalkEnds.{ends_dropped, ends_some, few_front, known_last}
+use Rattle.program_reader.proofs.WalkEnds.{ends_dropped, ends_some, fault_last, few_front, known_last}
 use Rattle.program_reader.proofs.video_walk.VideoWalk.end.Goals as goal
 
 pub finish-requires-in-Ok-None : goal.finish-requires-in-Ok-None
@@ -54,3 +54,9 @@ returns-in_ok-take-in-Ok-Some-clause-sizes c packets demuxed has are few want =
     (λ video. AreUnitSizes (joined ps) (wanted_of c.take.new.self).coarser.now None (map kept_at video.units.items) video.sizes.items)) (sym ends.0.taken_are)
     (c.finish-in-Ok-Some.ensures.sizes (packets ++ last ∷ []) (c.in_ok-take-in-Ok-Some.ensures.read packets has.reads few_all) few_all
     (ap (λ (w : SizesWanted). w.are_wanted) same ∙ want)))
+
+pub returns-in-Err-clause-video : goal.returns-in-Err-clause-video
+returns-in-Err-clause-video c packets demuxed has are few =
+    let last = c.in-Some.last.now in
+    let all_are = known_last packets demuxed.video (option_copied c.args.last) last (ap option_copied c.in-Some.is) are in
+    fault_last demuxed packets last c.in-Err.fault all_are has.sound c.in-Err.ensures.refused
