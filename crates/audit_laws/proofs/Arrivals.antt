@@ -15,7 +15,7 @@ use Rattle.tstd_model.specs.declared.decoder_input.Arrival.{Arrival}
 use Rattle.tstd_model.specs.declared.decoder_input.PacketPart.{PacketPart}
 use Rattle.tstd_model.specs.declared.decoder_input.PacketPart.TheVariants.{PesHeader, Data}
 use Rattle.tstd_model.specs.PacketBytes.{is_payload}
-use Rattle.stream_audit.specs.PesBytes.{arrivals_of as audited_arrivals, is_header}
+use Rattle.stream_audit.specs.PesBytes.{brought_by_all, is_pes_header}
 use Rattle.stream_audit.specs.Streams.{section_arrival}
 use Rattle.clean_laws.specs.Arrivals.{arrivals_of, header_bytes}
 use Rattle.audit_laws.proofs.Places.{place_by, places_by}
@@ -39,10 +39,10 @@ sections-are test from (packet ∷ more) = by_test (test packet) (sections-are t
 abbrev pub parts_of_payload : Payload → List PacketPart
 parts_of_payload payload = replicate (header_bytes payload) PesHeader ++ replicate (length payload.bytes - header_bytes payload) Data
 
-count-header : (h d : ℕ) → count_by is_header (replicate h PesHeader ++ replicate d Data) ≡ h
+count-header : (h d : ℕ) → count_by is_pes_header (replicate h PesHeader ++ replicate d Data) ≡ h
 count-header h d =
-    sum_by-append (λ (p : PacketPart). cond (is_header p) 1 0) (replicate h PesHeader) (replicate d Data)
-    ∙ ap₂ (λ (x y : ℕ). x + y) (sum_by-replicate (λ (p : PacketPart). cond (is_header p) 1 0) h PesHeader) (sum_by-replicate (λ (p : PacketPart). cond (is_header p) 1 0) d Data)
+    sum_by-append (λ (p : PacketPart). cond (is_pes_header p) 1 0) (replicate h PesHeader) (replicate d Data)
+    ∙ ap₂ (λ (x y : ℕ). x + y) (sum_by-replicate (λ (p : PacketPart). cond (is_pes_header p) 1 0) h PesHeader) (sum_by-replicate (λ (p : PacketPart). cond (is_pes_header p) 1 0) d Data)
     ∙ (let e : h * 1 + d * 0 ≡ h = omega arith in e)
 
 count-payload : (h d : ℕ) → count_by is_payload (replicate h PesHeader ++ replicate d Data) ≡ h + d
@@ -74,7 +74,7 @@ parts_of_packets list = flat_map (λ (packet : PacketRecord). parts_of_payload (
 
 -- packets that bring the bytes of their own payloads
 pub arrivals-are : (test : PacketRecord → Bool) (from : ℕ) (list : List PacketRecord) (rest : List PacketPart)
-    → audited_arrivals (places_by test from list) (parts_of_packets (filter test list) ++ rest) ≡ arrivals_of test (λ packet. header_bytes (payload_of packet)) from list
+    → brought_by_all (places_by test from list) (parts_of_packets (filter test list) ++ rest) ≡ arrivals_of test (λ packet. header_bytes (payload_of packet)) from list
 arrivals-are test from [] rest = refl
 arrivals-are test from (packet ∷ more) rest = by_test (test packet) (arrivals-are test (from + 1) more rest)
   where
@@ -93,7 +93,7 @@ arrivals-are test from (packet ∷ more) rest = by_test (test packet) (arrivals-
     behind : drop (length packet.payload) (own ++ tail) ≡ tail
     behind = ap (λ (n : ℕ). drop n (own ++ tail)) (sym (parts-many (payload_of packet))) ∙ drop-append_seam own tail
 
-    header : count_by is_header own ≡ header_bytes (payload_of packet)
+    header : count_by is_pes_header own ≡ header_bytes (payload_of packet)
     header = count-header (header_bytes (payload_of packet)) (length packet.payload - header_bytes (payload_of packet))
 
     size : count_by is_payload own ≡ length packet.payload
@@ -101,15 +101,15 @@ arrivals-are test from (packet ∷ more) rest = by_test (test packet) (arrivals-
         ∙ (let e : header_bytes (payload_of packet) + (length packet.payload - header_bytes (payload_of packet)) ≡ length packet.payload = omega (arith, header-within (payload_of packet)) in e)
 
     by_test : (b : Bool)
-        → audited_arrivals (places_by test (from + 1) more) (parts_of_packets (filter test more) ++ rest) ≡ arrivals_of test (λ packet. header_bytes (payload_of packet)) (from + 1) more
-        → audited_arrivals (cond b (place_by from packet ∷ places_by test (from + 1) more) (places_by test (from + 1) more))
+        → brought_by_all (places_by test (from + 1) more) (parts_of_packets (filter test more) ++ rest) ≡ arrivals_of test (λ packet. header_bytes (payload_of packet)) (from + 1) more
+        → brought_by_all (cond b (place_by from packet ∷ places_by test (from + 1) more) (places_by test (from + 1) more))
         (parts_of_packets (cond b (packet ∷ filter test more) (filter test more)) ++ rest)
         ≡ cond b (record { slot_no = from; header = header_bytes (payload_of packet); payload = length packet.payload } ∷ []) []
         ++ arrivals_of test (λ packet. header_bytes (payload_of packet)) (from + 1) more
     by_test true later =
-        ap (λ (parts : List PacketPart). audited_arrivals (place_by from packet ∷ places_by test (from + 1) more) parts) split
-        ∙ ap₂ (λ (xs : List PacketPart) (more_arrivals : List Arrival). record { slot_no = from; header = count_by is_header xs; payload = count_by is_payload xs } ∷ more_arrivals) here
-        (ap (audited_arrivals (places_by test (from + 1) more)) behind ∙ later)
+        ap (λ (parts : List PacketPart). brought_by_all (place_by from packet ∷ places_by test (from + 1) more) parts) split
+        ∙ ap₂ (λ (xs : List PacketPart) (more_arrivals : List Arrival). record { slot_no = from; header = count_by is_pes_header xs; payload = count_by is_payload xs } ∷ more_arrivals) here
+        (ap (brought_by_all (places_by test (from + 1) more)) behind ∙ later)
         ∙ ap₂ (λ (h p : ℕ). record { slot_no = from; header = h; payload = p } ∷ arrivals_of test (λ packet. header_bytes (payload_of packet)) (from + 1) more) header size
     by_test false later = later
 

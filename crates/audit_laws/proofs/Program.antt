@@ -171,6 +171,7 @@ module _ (laws : ProgramLaws) (file : List ℕ) (list : List PacketRecord) (slot
       map_sound = sound-on (map_pid place) map-counted;
     };
     clock_is = record {
+      known = λ same. omega (arith, same, pcr-pid, is.few);
       sound = sound-on is.times.demuxed.map.pcr_pid pcr-counted;
       zero_is = zero-found;
       off_is = sym off-found;
@@ -180,8 +181,11 @@ module _ (laws : ProgramLaws) (file : List ℕ) (list : List PacketRecord) (slot
   -- ---- the video
 
   video-is : (video : Stream) (audios : List Stream) → is.times.demuxed.map.streams.items ≡ video ∷ audios → video.pid ≡ video_pid place
+  unfolding head_of
   video-is video audios streams =
-      ap head_of (sym (ap (map (λ (stream : Stream). stream.pid)) streams) ∙ is.times.pids)
+      ap head_of
+      (sym (ap (map (λ (stream : Stream). stream.pid)) streams) ∙ is.times.pids
+      ∙ ap (range_with_len (video_pid place)) (let e : 1 + length row.audios ≡ suc (length row.audios) = omega arith in e))
 
   pes-are : is.times.demuxed.video ≡ units_in (pid_pieces file (video_pid place) 0 (piece_count file))
   pes-are =

@@ -41,8 +41,8 @@ use Rattle.stream_audit.specs.declared.audited_stream.AuditedStream.{AuditedStre
 use Rattle.stream_audit.specs.declared.finding.Finding.{Finding}
 use Rattle.stream_audit.specs.declared.kept_units.KeptUnits.{KeptUnits}
 use Rattle.stream_audit.specs.Findings.{FindsOn}
-use Rattle.stream_audit.specs.PesBytes.{arrivals_of as audited_arrivals, bytes_before}
-use Rattle.stream_audit.specs.Removals.{not_before_zero, removed_at, unit_bytes, unit_removals}
+use Rattle.stream_audit.specs.PesBytes.{brought_by_all, bytes_before}
+use Rattle.stream_audit.specs.Removals.{not_before_zero, removed_at, bytes_of_units, unit_removals}
 use Rattle.stream_audit.specs.Streams.{IsVideoStream, arrivals_by}
 use Rattle.es_units.specs.Units.{first_sequence}
 use Rattle.tstd_model.specs.Faults.{IsFault}
@@ -316,7 +316,7 @@ module _ (laws : PacketLaws) (file : List ℕ) (list : List PacketRecord) (pid p
   arrivals-same to within =
       let test : PacketRecord → Bool = λ (packet : PacketRecord). packet.pid == pid in
       ap₂ (λ (places : List Place) (packets : List PesUnit). arrivals_by places (record { from = 0; to = to }) packets) (places-are laws file list is.read pid is.counted) taken-are
-      ∙ ap₂ (λ (n : ℕ) (parts : List PacketPart). audited_arrivals (places_by (λ (packet : PacketRecord). packet.pid == pid) 0 list) (replicate n Overhead ++ parts))
+      ∙ ap₂ (λ (n : ℕ) (parts : List PacketPart). brought_by_all (places_by (λ (packet : PacketRecord). packet.pid == pid) 0 list) (replicate n Overhead ++ parts))
       (before-is pid 0 list ∙ ap (length {A = ℕ}) nothing-before) (whole-parts to 0 pes (omega (arith, within)) ∙ sym parts-are ∙ sym (payload-parts pid list) ∙ sym (append-nil _))
       ∙ arrivals-are (λ (packet : PacketRecord). packet.pid == pid) 0 list []
 
@@ -343,7 +343,7 @@ module _ (laws : PacketLaws) (file : List ℕ) (list : List PacketRecord) (pid p
 
   -- all of its bytes are kept
   pub bytes-kept : (shown_at : ℕ) (kept_units : KeptUnits) → shown_at < 2576980377600 → All (λ (at : ℕ). at < 1288490188800) times
-      → AreUnitsOf shown_at kept_units.base kept_units.units pes times → unit_bytes kept_units ≡ sum_by (λ (packet : PesUnit). length (pes_payload_of packet)) pes
+      → AreUnitsOf shown_at kept_units.base kept_units.units pes times → bytes_of_units kept_units ≡ sum_by (λ (packet : PesUnit). length (pes_payload_of packet)) pes
   bytes-kept shown_at kept_units below soon are = (removals-are shown_at kept_units.base kept_units.units pes times below soon are).2
 
 -- what an audit takes of it
@@ -358,7 +358,7 @@ video-found laws file list slot pid program base row choice pes times kept_units
     is_clean.clean (unit_removals base kept_units) fault
     (removals-allowed laws file list pid program row choice pes times is_clean.headers is is_clean.payloads data_behind base kept_units below soon kept_are.units)
     (subst (λ (arrivals : List Arrival). IsFault slot (VideoBuffers row.vbv) arrivals (unit_removals base kept_units) fault) arrivals
-    (subst (λ (vbv : ℕ). IsFault slot (VideoBuffers vbv) (arrivals_by (places_on file pid) (record { from = audited.from; to = audited.from + unit_bytes kept_units }) (taken true pes))
+    (subst (λ (vbv : ℕ). IsFault slot (VideoBuffers vbv) (arrivals_by (places_on file pid) (record { from = audited.from; to = audited.from + bytes_of_units kept_units }) (taken true pes))
     (unit_removals base kept_units) fault)
     kept_are.buffer (subst (λ (s : AuditedStream). IsFault slot s.kind s.arrivals s.removals fault) audited.stream_is has))))
     found finds
@@ -369,8 +369,8 @@ video-found laws file list slot pid program base row choice pes times kept_units
         ∙ ap (λ (packets : List PesUnit). first_sequence (joined packets)) (taken-are laws file list pid program row choice pes times is_clean.headers is is_clean.payloads data_behind)
         ∙ first)
 
-    arrivals : arrivals_by (places_on file pid) (record { from = audited.from; to = audited.from + unit_bytes kept_units }) (taken true pes) ≡ arrivals_on pid list
+    arrivals : arrivals_by (places_on file pid) (record { from = audited.from; to = audited.from + bytes_of_units kept_units }) (taken true pes) ≡ arrivals_on pid list
     arrivals =
-        ap (λ (n : ℕ). arrivals_by (places_on file pid) (record { from = n; to = n + unit_bytes kept_units }) (taken true pes)) from_zero
-        ∙ arrivals-same laws file list pid program row choice pes times is_clean.headers is is_clean.payloads data_behind (0 + unit_bytes kept_units)
+        ap (λ (n : ℕ). arrivals_by (places_on file pid) (record { from = n; to = n + bytes_of_units kept_units }) (taken true pes)) from_zero
+        ∙ arrivals-same laws file list pid program row choice pes times is_clean.headers is is_clean.payloads data_behind (0 + bytes_of_units kept_units)
         (let all = bytes-kept laws file list pid program row choice pes times is_clean.headers is is_clean.payloads data_behind base kept_units below soon kept_are.units in omega (arith, all))

@@ -1,5 +1,5 @@
 -- What an audit finds on a program of a stream that was written (ISO/IEC 13818-1, 2.4.2).
-use Rattle.std.specs.Prelude.{◌≡◌, ℕ, List, ◌∷◌, map, Option, None}
+use Rattle.std.specs.Prelude.{◌≡◌, ℕ, List, [], ◌∷◌, map, Option, None}
 use Rattle.ts_demux.specs.declared.demuxed.Demuxed.{Demuxed}
 use Rattle.stream_audit.specs.declared.file_clock.FoundClock.{FoundClock}
 use Rattle.stream_audit.specs.declared.finding.Finding.{Finding}

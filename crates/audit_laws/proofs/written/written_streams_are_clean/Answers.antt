@@ -1,4 +1,4 @@
-use Rattle.std.proofs.Common.{ℕ, ◌+◌, map, sym, subst, arith}
+use Rattle.std.proofs.Common.{◌≡◌, ℕ, ◌+◌, map, sym, subst, arith}
 use Rattle.job_report.specs.declared.job.ProgramJob.{ProgramJob}
 use Rattle.job_stream.specs.Stream.{layout_of}
 use Rattle.job_stream.proofs.ReadPrograms.{AreReady, programs-ready}
