@@ -8,10 +8,11 @@ use Rattle.std.proofs.lemmas.Bool.{eqb-true}
 use Rattle.std.proofs.lemmas.List.{length-map}
 use Rattle.std.proofs.lemmas.List.Elements.{All-map}
 use Rattle.std.proofs.lemmas.Option.{none-some, same_Some}
+use Rattle.bit_lists.specs.Payload.{Payload}
 use Rattle.ts_packets.specs.Packet.{PacketRecord}
 use Rattle.ts_packets.specs.declared.pid_fault.PidFault.{PidFault}
 use Rattle.ts_packets.specs.TransportStream.{is_of_pid, packets, piece_at, piece_count, pid_pieces}
-use Rattle.ts_packets.specs.Carried.{pid_fault}
+use Rattle.ts_packets.specs.Carried.{payloads_on, pid_fault}
 use Rattle.psi_tables.specs.declared.stream.Stream.{Stream}
 use Rattle.psi_tables.specs.Pmt.{pids_of}
 use Rattle.version_table.specs.declared.table.Unit.{Unit as CodedUnit}
@@ -20,7 +21,6 @@ use Rattle.slot_rule.specs.Queues.{video_queue}
 use Rattle.tstd_model.specs.declared.decoder_input.BufferKind.TheVariants.{System}
 use Rattle.tstd_model.specs.declared.fault.TstdFault.{TstdFault}
 use Rattle.tstd_model.specs.Faults.{IsFault}
-use Rattle.tstd_bridge.specs.Removals.{LeaveData}
 use Rattle.mux_writer.specs.Layout.{map_pid, video_pid}
 use Rattle.layer_laws.specs.Counted.{AreCounted}
 use Rattle.ts_demux.specs.declared.demux_fault.DemuxFault.{DemuxFault}
@@ -42,7 +42,7 @@ use Rattle.stream_audit.specs.Audit.{AreStreamsOf, IsAudited}
 use Rattle.stream_audit.specs.Findings.{FindsBy, FindsFirst, FindsOn}
 use Rattle.stream_audit.specs.Refusals.{IsProgramRead}
 use Rattle.stream_audit.specs.Streams.{IsVideoStream, system_stream}
-use Rattle.clean_laws.specs.Arrivals.{section_arrivals}
+use Rattle.clean_laws.specs.Arrivals.{header_bytes, section_arrivals}
 use Rattle.clean_laws.specs.Clean.{IsCleanOn}
 use Rattle.parsing_laws.specs.TakenOut.{LeadsToMap}
 use Rattle.time_laws.specs.Carried.{CarriesTimes}
@@ -69,8 +69,8 @@ pub record ProgramLaws : Type 0 where
   pub sections : (file : List ℕ) (list : List PacketRecord) (slot map_pid : ℕ) (found : Option Finding) → packets file ≡ map Some list → AreCounted 0 list → AreCounted map_pid list
       → ((fault : TstdFault) → IsFault slot System (section_arrivals map_pid list) [] fault → ⊥) → FindsOn slot (system_stream file map_pid) found → IsFullAtMost found
   pub video : (file : List ℕ) (list : List PacketRecord) (slot pid program base : ℕ) (row : ProgramRow) (choice : List ℕ) (pes : List PesUnit) (times : List ℕ) (kept : KeptUnits)
-      (stream : AuditedStream) (found : Option Finding) → IsVideoOf file list pid row choice pes times → (is_clean : IsCleanOn slot pid (video_queue program row choice) list)
-      → LeaveData is_clean.headers (video_queue program row choice).packets → first_sequence (joined pes) ≡ Some 0 → base < 2576980377600 → All (λ (at : ℕ). at < 1288490188800) times
+      (stream : AuditedStream) (found : Option Finding) → IsVideoOf file list pid row choice pes times → IsCleanOn slot pid (video_queue program row choice) list
+      → All (λ (p : Payload). header_bytes p < length p.bytes) (payloads_on pid list) → first_sequence (joined pes) ≡ Some 0 → base < 2576980377600 → All (λ (at : ℕ). at < 1288490188800) times
       → AreKeptOf base pes times row.vbv kept → IsVideoStream file base kept pid pes stream → FindsOn slot stream found → IsFullAtMost found
 
 -- What is known of a program of a stream.
@@ -82,7 +82,7 @@ pub record IsProgramIn (file : List ℕ) (list : List PacketRecord) (slot place 
   pub times : CarriesTimes file list slot place number row choice
   pub taken : IsTakenAt file place number
   pub is_clean : IsCleanOn slot (video_pid place) (video_queue place row choice) list
-  pub data_behind : LeaveData is_clean.headers (video_queue place row choice).packets
+  pub data_behind : All (λ (p : Payload). header_bytes p < length p.bytes) (payloads_on (video_pid place) list)
   pub sections : (fault : TstdFault) → IsFault slot System (section_arrivals (map_pid place) list) [] fault → ⊥
   pub rise : IsStrictlyIncreasing (map (λ (unit : CodedUnit). unit.due) row.units)
   pub soon : All (λ (unit : CodedUnit). unit.due < 1288490188800) row.units
@@ -138,7 +138,7 @@ module _ (laws : ProgramLaws) (file : List ℕ) (list : List PacketRecord) (slot
   off-found : first_off slot is.times.base (places_on file is.times.demuxed.map.pcr_pid) ≡ None
   off-found = laws.off_is file list slot is.times.demuxed.map.pcr_pid is.times.base is.read pcr-counted is.times.clock
 
-  clock : FoundClock
+  abbrev clock : FoundClock
   clock = record { zero = is.times.base; off = None }
 
   -- ---- nothing is refused
@@ -210,7 +210,7 @@ module _ (laws : ProgramLaws) (file : List ℕ) (list : List PacketRecord) (slot
 
   found-of : (kept : KeptUnits) (found : Option Finding) → AreKeptOf is.times.base is.times.demuxed.video ats is.times.first.seq.vbv kept → IsAudited file number slot kept found
       → IsFullOrOn (map (λ (audio : AudioStream). audio.pid) is.times.demuxed.audios) found
-  found-of kept found kept_are audited = by_demuxed audited.demuxed audited.map_pid audited.clock same map-same clock-same off-none audited.streams_are audited.first
+  found-of kept found kept_are audited = by_demuxed audited.demuxed audited.map_pid audited.clock audited.streams same map-same clock-same off-none audited.streams_are audited.first
     where
       same : audited.demuxed ≡ is.times.demuxed
       same = laws.one file number [] audited.demuxed is.times.demuxed audited.read.tables.taken_out is.times.taken_out
@@ -230,10 +230,10 @@ module _ (laws : ProgramLaws) (file : List ℕ) (list : List PacketRecord) (slot
           audited.read.clock_is.off_is ∙ ap (λ (base : ℕ). first_off slot base (places_on file audited.demuxed.map.pcr_pid)) clock-same
           ∙ ap (λ (d : Demuxed). first_off slot is.times.base (places_on file d.map.pcr_pid)) same ∙ off-found
 
-      by_demuxed : (d : Demuxed) (pid : ℕ) (c : FoundClock) → d ≡ is.times.demuxed → pid ≡ map_pid place → c.zero ≡ is.times.base → c.off ≡ None
-          → {streams : List AuditedStream} → AreStreamsOf file pid c.zero kept d streams → FindsBy slot d.map.pcr_pid c.off streams found
+      by_demuxed : (d : Demuxed) (pid : ℕ) (c : FoundClock) (streams : List AuditedStream) → d ≡ is.times.demuxed → pid ≡ map_pid place → c.zero ≡ is.times.base → c.off ≡ None
+          → AreStreamsOf file pid c.zero kept d streams → FindsBy slot d.map.pcr_pid c.off streams found
           → IsFullOrOn (map (λ (audio : AudioStream). audio.pid) is.times.demuxed.audios) found
-      by_demuxed d pid c d-is pid-is zero-is off-is {streams} are finds =
+      by_demuxed d pid c streams d-is pid-is zero-is off-is are finds =
           subst (λ (e : Demuxed). IsFullOrOn (map (λ (audio : AudioStream). audio.pid) e.audios) found) d-is
           (all-streams file slot c.zero kept are.video_stream d.audios are.audio_streams (system_stream file pid) found are.are_audio
           (λ found_one finds_one.

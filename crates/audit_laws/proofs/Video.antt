@@ -32,7 +32,7 @@ use Rattle.tstd_model.specs.declared.decoder_input.Removal.{Removal}
 use Rattle.tstd_model.specs.Decoder.{removed}
 use Rattle.tstd_model.specs.PacketBytes.{is_data, kept}
 use Rattle.tstd_bridge.specs.Arrivals.{Headers}
-use Rattle.tstd_bridge.specs.Removals.{IsAllowed, LeaveData, wanted_of_each}
+use Rattle.tstd_bridge.specs.Removals.{IsAllowed, wanted_of_each}
 use Rattle.ts_demux.specs.declared.demuxed.PesUnit.{PesUnit}
 use Rattle.ts_demux.specs.declared.pid_places.Place.{Place}
 use Rattle.ts_demux.specs.PidPlaces.{places_on}
@@ -109,18 +109,6 @@ removals-are shown_at base (u ∷ us) (p ∷ ps) (t ∷ ts) below soon are =
     )
 
 -- ---- payloads
-
-leaves : (headers : Headers) (payloads : List Payload) (packets : List QueuedPacket) → AllZip (IsPayloadOf headers) payloads packets → LeaveData headers packets
-    → All (λ (p : Payload). header_bytes p < length p.bytes) payloads
-leaves headers [] [] zip data_behind = All-nil (λ (p : Payload). header_bytes p < length p.bytes)
-leaves headers [] (q ∷ qs) zip data_behind = absurd zip
-leaves headers (p ∷ ps) [] zip data_behind = absurd zip
-leaves headers (p ∷ ps) (q ∷ qs) zip data_behind =
-    let size : length p.bytes ≡ q.payload = zip.0.size in
-    let header : header_bytes p ≡ headers q = zip.0.header in
-    let low : headers q < q.payload = All-head (λ (packet : QueuedPacket). headers packet < packet.payload) q qs data_behind in
-    All-cons (λ (p : Payload). header_bytes p < length p.bytes) p ps (omega (arith, size, header, low))
-    (leaves headers ps qs zip.1 (All-tail (λ (packet : QueuedPacket). headers packet < packet.payload) q qs data_behind))
 
 of-map : {A B : Type 0} (P : B → Type 0) (f : A → B) (xs : List A) (ys : List B) → map f xs ≡ ys → All P ys → All (λ x. P (f x)) xs
 of-map P f xs ys same all = from xs (subst (All P) (sym same) all)
@@ -235,7 +223,7 @@ none-there (x ∷ xs) is = absurd (omega (arith, is))
 
 module _ (laws : PacketLaws) (file : List ℕ) (list : List PacketRecord) (pid program : ℕ) (row : ProgramRow) (choice : List ℕ) (pes : List PesUnit) (times : List ℕ) (headers : Headers)
     (is : IsVideoOf file list pid row choice pes times) (beside : AllZip (IsPayloadOf headers) (payloads_on pid list) (video_queue program row choice).packets)
-    (data_behind : LeaveData headers (video_queue program row choice).packets) where
+    (data_behind : All (λ (p : Payload). header_bytes p < length p.bytes) (payloads_on pid list)) where
   abbrev on_pid : List CarriedPayload
   on_pid = carried (pid_pieces file pid 0 (piece_count file))
 
@@ -253,9 +241,7 @@ module _ (laws : PacketLaws) (file : List ℕ) (list : List PacketRecord) (pid p
       take-all (x ∷ xs) = ap (λ (ys : List PacketRecord). x ∷ ys) (take-all xs)
 
   leaves-each : All LeavesData on_pid
-  leaves-each =
-      of-map (λ (p : Payload). header_bytes p < length p.bytes) (λ (c : CarriedPayload). c.payload) on_pid (payloads_on pid list) payloads-are
-      (leaves headers (payloads_on pid list) (video_queue program row choice).packets beside data_behind)
+  leaves-each = of-map (λ (p : Payload). header_bytes p < length p.bytes) (λ (c : CarriedPayload). c.payload) on_pid (payloads_on pid list) payloads-are data_behind
 
   bytes-are : sent_bytes ≡ map (λ (packet : Gathered). packet.bytes) (gathered on_pid)
   bytes-are =
@@ -350,7 +336,7 @@ module _ (laws : PacketLaws) (file : List ℕ) (list : List PacketRecord) (pid p
 pub video-found : PacketLaws
     → (file : List ℕ) (list : List PacketRecord) (slot pid program base : ℕ) (row : ProgramRow) (choice : List ℕ) (pes : List PesUnit) (times : List ℕ) (kept_units : KeptUnits)
     (stream : AuditedStream) (found : Option Finding) → IsVideoOf file list pid row choice pes times → (is_clean : IsCleanOn slot pid (video_queue program row choice) list)
-    → LeaveData is_clean.headers (video_queue program row choice).packets → first_sequence (joined pes) ≡ Some 0 → base < 2576980377600 → All (λ (at : ℕ). at < 1288490188800) times
+    → All (λ (p : Payload). header_bytes p < length p.bytes) (payloads_on pid list) → first_sequence (joined pes) ≡ Some 0 → base < 2576980377600 → All (λ (at : ℕ). at < 1288490188800) times
     → AreKeptOf base pes times row.vbv kept_units → IsVideoStream file base kept_units pid pes stream → FindsOn slot stream found → IsFullAtMost found
 video-found laws file list slot pid program base row choice pes times kept_units stream found is is_clean data_behind first below soon kept_are audited finds =
     found-on slot stream

@@ -1,7 +1,8 @@
 //! What an audit finds on a stream, part by part, as functions that do nothing.
-ghost use Rattle.std.specs.Prelude.{◌≡◌, ℕ, ◌<◌, ◌≤◌, ◌/◌, All, List, [], Option, Some, None, map};
+ghost use Rattle.std.specs.Prelude.{◌≡◌, ℕ, ◌<◌, ◌≤◌, ◌/◌, All, List, [], Option, Some, None, length, map};
 ghost use Rattle.ts_packets.specs.Packet.{PacketRecord};
 ghost use Rattle.ts_packets.specs.TransportStream.{packets};
+ghost use Rattle.ts_packets.specs.Carried.{payloads_on};
 ghost use Rattle.pcr_writer.specs.declared.pcr.TheConstants.{PCR_MODULUS};
 ghost use Rattle.tstd_model.specs.declared.decoder_input.Arrival.{Arrival};
 ghost use Rattle.tstd_model.specs.declared.decoder_input.BufferKind.TheVariants.{Audio, System};
@@ -15,7 +16,6 @@ ghost use Rattle.elementary_streams.specs.Packets.{joined};
 ghost use Rattle.es_units.specs.Units.{first_sequence};
 ghost use Rattle.version_table.specs.declared.table.ProgramRow.{ProgramRow};
 ghost use Rattle.slot_rule.specs.Queues.{video_queue};
-ghost use Rattle.tstd_bridge.specs.Removals.{LeaveData};
 ghost use Rattle.layer_laws.specs.Counted.{AreCounted};
 ghost use Rattle.stream_audit.specs.declared.audited_stream.AuditedStream.{AuditedStream};
 ghost use Rattle.stream_audit.specs.declared.finding.Finding.{Finding};
@@ -23,7 +23,7 @@ ghost use Rattle.stream_audit.specs.declared.kept_units.KeptUnits.{KeptUnits};
 ghost use Rattle.stream_audit.specs.Clock.{clock_of, first_off};
 ghost use Rattle.stream_audit.specs.Findings.{FindsOn};
 ghost use Rattle.stream_audit.specs.Streams.{IsVideoStream, system_stream};
-ghost use Rattle.clean_laws.specs.Arrivals.{section_arrivals};
+ghost use Rattle.clean_laws.specs.Arrivals.{header_bytes, section_arrivals};
 ghost use Rattle.clean_laws.specs.Clean.{IsCleanOn};
 ghost use Rattle.time_laws.specs.Clock.{IsClock};
 ghost use Rattle.audit_laws.specs.Carried.{IsVideoOf};
@@ -59,8 +59,8 @@ pub fn sections_are_clean()
 pub fn video_is_clean()
     ensures { (file : List ℕ) (list : List PacketRecord) (slot pid program base : ℕ) (row : ProgramRow) (choice : List ℕ) (pes : List PesUnit) (times : List ℕ) (kept : KeptUnits)
         (stream : AuditedStream) (found : Option Finding)
-        → IsVideoOf file list pid row choice pes times → (is_clean : IsCleanOn slot pid (video_queue program row choice) list)
-        → LeaveData is_clean.headers (video_queue program row choice).packets → first_sequence (joined pes) ≡ Some 0
+        → IsVideoOf file list pid row choice pes times → IsCleanOn slot pid (video_queue program row choice) list
+        → All (λ payload. header_bytes payload < length payload.bytes) (payloads_on pid list) → first_sequence (joined pes) ≡ Some 0
         → base < PCR_MODULUS → All (λ at. at < PCR_MODULUS / 2) times → AreKeptOf base pes times row.vbv kept
         → IsVideoStream file base kept pid pes stream → FindsOn slot stream found → IsFullAtMost found }
 {
