@@ -3,7 +3,7 @@ use Rattle.std.proofs.Common.{◌≡◌, ◌≢◌, ℕ, ◌+◌, ◌*◌, ◌<�
 use Rattle.std.specs.Prelude.{slice_get}
 use Rattle.std.specs.List.{flat_map}
 use Rattle.std.proofs.lemmas.List.Elements.{All-get_or, All-map}
-use Rattle.std.proofs.lemmas.Option.{get_or_from_slice_get, same_Some, slice_get-get_or, slice_get_within}
+use Rattle.std.proofs.lemmas.Option.{same_Some, slice_get-get_or, slice_get_within}
 use Rattle.bit_lists.specs.Payload.{Payload}
 use Rattle.ts_packets.specs.Packet.{PacketRecord}
 use Rattle.ts_packets.specs.Carried.{payloads_on}
@@ -26,7 +26,7 @@ use Rattle.job_report.specs.declared.job.Job.{Job}
 use Rattle.program_reader.specs.declared.program.Program.{Program}
 use Rattle.version_maker.specs.declared.version.UnitVersion.{UnitVersion}
 use Rattle.version_source.specs.Pieces.{pieces_of, stream_items, video_items}
-use Rattle.program_table.specs.Table.{IsTableOf, program_rows}
+use Rattle.program_table.specs.Table.{IsTableOf}
 use Rattle.job_stream.specs.Stream.{IsStreamIn, layout_of}
 use Rattle.clean_laws.specs.Arrivals.{header_bytes, section_arrivals}
 use Rattle.clean_laws.specs.Clean.{IsCleanStream}
@@ -42,7 +42,7 @@ use Rattle.program_table.proofs.Rows.{HaveOneList}
 use Rattle.time_laws.specs.Carried.{CarriesTable, CarriesTimes}
 use Rattle.audit_laws.specs.Written.{IsFoundClean}
 use Rattle.audit_laws.proofs.Parsed.{IsTakenAt}
-use Rattle.audit_laws.proofs.Program.{IsProgramIn, ProgramLaws, found-clean}
+use Rattle.audit_laws.proofs.Program.{ProgramLaws, found-clean}
 
 same-packets : (xs ys : List PacketRecord) → map Some xs ≡ map Some ys → xs ≡ ys
 same-packets [] [] same = refl

@@ -1,8 +1,7 @@
 -- A program of a stream that is clean by its own times: what an audit finds on it.
-use Rattle.std.proofs.Common.{◌≡◌, ◌≢◌, ◌⊎◌, ℕ, suc, ◌+◌, ◌*◌, ◌/◌, ◌<◌, ◌≤◌, ◌==◌, ◌||◌, Bool, true, false, List}
+use Rattle.std.proofs.Common.{◌≡◌, ◌≢◌, ℕ, suc, ◌+◌, ◌*◌, ◌<◌, ◌≤◌, ◌==◌, ◌||◌, Bool, true, false, List}
 use Rattle.std.proofs.Common.{[], ◌∷◌, ◌++◌, All, length, map, Option, Some, None, refl, sym, ap, subst, ◌∙◌, arith, inl, inr}
-use Rattle.std.specs.Prelude.{slice_get}
-use Rattle.std.specs.List.{range_with_len, zip}
+use Rattle.std.specs.List.{range_with_len}
 use Rattle.std.specs.List.Sorted.{IsStrictlyIncreasing}
 use Rattle.std.proofs.lemmas.Bool.{eqb-true}
 use Rattle.std.proofs.lemmas.List.{length-map}
@@ -10,11 +9,9 @@ use Rattle.std.proofs.lemmas.List.Elements.{All-map}
 use Rattle.std.proofs.lemmas.Option.{none-some, same_Some}
 use Rattle.bit_lists.specs.Payload.{Payload}
 use Rattle.ts_packets.specs.Packet.{PacketRecord}
-use Rattle.ts_packets.specs.declared.pid_fault.PidFault.{PidFault}
 use Rattle.ts_packets.specs.TransportStream.{is_of_pid, packets, piece_at, piece_count, pid_pieces}
 use Rattle.ts_packets.specs.Carried.{payloads_on, pid_fault}
 use Rattle.psi_tables.specs.declared.stream.Stream.{Stream}
-use Rattle.psi_tables.specs.Pmt.{pids_of}
 use Rattle.version_table.specs.declared.table.Unit.{Unit as CodedUnit}
 use Rattle.version_table.specs.declared.table.ProgramRow.{ProgramRow}
 use Rattle.slot_rule.specs.Queues.{video_queue}
@@ -23,11 +20,10 @@ use Rattle.tstd_model.specs.declared.fault.TstdFault.{TstdFault}
 use Rattle.tstd_model.specs.Faults.{IsFault}
 use Rattle.mux_writer.specs.Layout.{map_pid, video_pid}
 use Rattle.layer_laws.specs.Counted.{AreCounted}
-use Rattle.ts_demux.specs.declared.demux_fault.DemuxFault.{DemuxFault}
 use Rattle.ts_demux.specs.declared.demuxed.AudioStream.{AudioStream}
 use Rattle.ts_demux.specs.declared.demuxed.Demuxed.{Demuxed}
 use Rattle.ts_demux.specs.declared.demuxed.PesUnit.{PesUnit}
-use Rattle.ts_demux.specs.Demux.{AreStreamsSound, IsDemuxed, IsStreamFault, units_in}
+use Rattle.ts_demux.specs.Demux.{AreStreamsSound, IsDemuxed, units_in}
 use Rattle.ts_demux.specs.Streams.{is_among}
 use Rattle.ts_demux.specs.Tables.{IsMapPid}
 use Rattle.elementary_streams.specs.Packets.{joined}
@@ -44,7 +40,6 @@ use Rattle.stream_audit.specs.Refusals.{IsProgramRead}
 use Rattle.stream_audit.specs.Streams.{IsVideoStream, system_stream}
 use Rattle.clean_laws.specs.Arrivals.{header_bytes, section_arrivals}
 use Rattle.clean_laws.specs.Clean.{IsCleanOn}
-use Rattle.parsing_laws.specs.TakenOut.{LeadsToMap}
 use Rattle.time_laws.specs.Carried.{CarriesTimes}
 use Rattle.time_laws.specs.Clock.{IsClock}
 use Rattle.time_laws.specs.Video.{AreDecoded, DecodedPicture}

@@ -28,10 +28,10 @@ use ts_demux::laws::one_answer;
 use tstd_bridge::laws::{removals_when_wanted_are_allowed, schedules_are_clean};
 use version_source::laws::{one_list_of_versions, pieces_are_as_queued, programs_can_be_sent};
 
-/// What `run` writes, audited, has no finding on a video, on sections or of a clock reference but a transport buffer that isn't empty for a second: each program
-/// of a job's stream is read by an audit, none of its clock references is off, and whatever units of its pictures the audit is handed, as they are decoded by
-/// the stream's own clock, what it finds is that or stands on a PID of its audio streams. It needs programs whose videos are bytes, a stream no longer than is
-/// audited, and dues within half a round of the clock, which are 13 hours.
+/// What `run` writes, audited, has no finding on a video, on sections or of a clock reference but a transport buffer that isn't empty for a second: each
+/// program of a job's stream is read by an audit, none of its clock references is off, and whatever units of its pictures the audit is handed, as they are
+/// decoded by the stream's own clock, what it finds is that or stands on a PID of its audio streams. It needs programs whose videos are bytes, a stream no
+/// longer than is audited, and dues within half a round of the clock, which are 13 hours.
 pub fn written_streams_are_clean()
     ensures { (job : Job) (contents : List (List ℕ)) (programs : List Program) (table : Table) (choice : List ℕ) (slots : SlotList) (stream : List ℕ)
         → IsValidJob job → ArePrograms job contents programs → IsTableOf job programs table → IsValidTable table → Fits table choice
