@@ -6,7 +6,7 @@ use Rattle.stream_audit.specs.declared.finding.FaultName.TheVariants.{Full, Late
 use Rattle.stream_audit.specs.Removals.{removed_at}
 use Rattle.time_laws.specs.Clock.{IsFirstShown}
 use Rattle.audit_laws.specs.Found.{IsFullAtMost}
-use Rattle.audit_laws.specs.Kept.{AreUnitsOf}
+use Rattle.audit_laws.specs.Kept.{AreOwnUnits}
 
 -- a PES packet with a header of nine bytes and two bytes behind it
 abbrev packet : PesUnit
@@ -17,7 +17,7 @@ shown : IsFirstShown 100 (pos (1000 + 500)) 1400
 shown = record { first = omega arith; shown = (pos 0, refl) }
 
 -- a unit of those two bytes that is due at 500 behind a base of 1,000
-unit : AreUnitsOf 100 1000 (record { due = 500; bytes = 2 } ∷ []) (packet ∷ []) (1400 ∷ [])
+unit : AreOwnUnits 100 1000 (record { due = 500; bytes = 2 } ∷ []) (packet ∷ []) (1400 ∷ [])
 unfolding bit bits
 unit = (record { bytes = refl; when = shown; early = omega arith }, tt)
 
@@ -26,7 +26,7 @@ removed : removed_at 100 1000 (pos 500) ≡ 1400
 removed = refl
 
 -- with no unit for the packet they are no such units
-none : AreUnitsOf 100 1000 [] (packet ∷ []) (1400 ∷ []) → ⊥
+none : AreOwnUnits 100 1000 [] (packet ∷ []) (1400 ∷ []) → ⊥
 none are = are
 
 -- a transport buffer that isn't empty may be found, a late unit may not

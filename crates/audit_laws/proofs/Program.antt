@@ -43,7 +43,7 @@ use Rattle.clean_laws.specs.Clean.{IsCleanOn}
 use Rattle.time_laws.specs.Carried.{CarriesTimes}
 use Rattle.time_laws.specs.Clock.{IsClock}
 use Rattle.time_laws.specs.Video.{AreDecoded, DecodedPicture}
-use Rattle.audit_laws.specs.Carried.{IsVideoOf}
+use Rattle.audit_laws.specs.Carried.{CarriesVideo}
 use Rattle.audit_laws.specs.Kept.{AreKeptOf}
 use Rattle.audit_laws.specs.Found.{IsFullAtMost, IsFullOrOn}
 use Rattle.audit_laws.specs.Written.{IsFoundClean}
@@ -64,7 +64,7 @@ pub record ProgramLaws : Type 0 where
   pub sections : (file : List ℕ) (list : List PacketRecord) (slot map_pid : ℕ) (found : Option Finding) → packets file ≡ map Some list → AreCounted 0 list → AreCounted map_pid list
       → ((fault : TstdFault) → IsFault slot System (section_arrivals map_pid list) [] fault → ⊥) → FindsOn slot (system_stream file map_pid) found → IsFullAtMost found
   pub video : (file : List ℕ) (list : List PacketRecord) (slot pid program base : ℕ) (row : ProgramRow) (choice : List ℕ) (pes : List PesUnit) (times : List ℕ) (kept : KeptUnits)
-      (stream : AuditedStream) (found : Option Finding) → IsVideoOf file list pid row choice pes times → IsCleanOn slot pid (video_queue program row choice) list
+      (stream : AuditedStream) (found : Option Finding) → CarriesVideo file list pid row choice pes times → IsCleanOn slot pid (video_queue program row choice) list
       → All (λ (p : Payload). header_bytes p < length p.bytes) (payloads_on pid list) → first_sequence (joined pes) ≡ Some 0 → base < 2576980377600 → All (λ (at : ℕ). at < 1288490188800) times
       → AreKeptOf base pes times row.vbv kept → IsVideoStream file base kept pid pes stream → FindsOn slot stream found → IsFullAtMost found
 
@@ -187,7 +187,7 @@ module _ (laws : ProgramLaws) (file : List ℕ) (list : List PacketRecord) (slot
       let out = is.times.taken_out in
       out.video_packets ∙ ap (λ (pid : ℕ). units_in (pid_pieces file pid 0 (piece_count file))) (video-is out.video out.audios out.streams)
 
-  of-video : IsVideoOf file list (video_pid place) row choice is.times.demuxed.video ats
+  of-video : CarriesVideo file list (video_pid place) row choice is.times.demuxed.video ats
   of-video = record {
     read = is.read;
     counted = video-counted;

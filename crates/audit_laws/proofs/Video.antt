@@ -49,9 +49,9 @@ use Rattle.tstd_model.specs.Faults.{IsFault}
 use Rattle.clean_laws.specs.Arrivals.{arrivals_on, header_bytes}
 use Rattle.clean_laws.specs.Clean.{IsCleanOn, IsPayloadOf}
 use Rattle.time_laws.specs.Clock.{IsFirstShown}
-use Rattle.audit_laws.specs.Carried.{IsVideoOf}
+use Rattle.audit_laws.specs.Carried.{CarriesVideo}
 use Rattle.audit_laws.specs.Found.{IsFullAtMost}
-use Rattle.audit_laws.specs.Kept.{AreKeptOf, AreUnitsOf}
+use Rattle.audit_laws.specs.Kept.{AreKeptOf, AreOwnUnits}
 use Rattle.audit_laws.proofs.Found.{found-on}
 use Rattle.audit_laws.proofs.Arrivals.{arrivals-are, parts-many, parts_of_payload, payload-parts}
 use Rattle.audit_laws.proofs.Gathered.{LeavesData, fits-gathered, parts-gathered, plain_parts, whole-parts}
@@ -89,7 +89,7 @@ abbrev pub payload_sizes : List PesUnit → List ℕ
 payload_sizes packets = map (λ (packet : PesUnit). length (pes_payload_of packet)) packets
 
 removals-are : (shown_at base : ℕ) (units : List Removal) (packets : List PesUnit) (times : List ℕ) → shown_at < 2576980377600 → All (λ (at : ℕ). at < 1288490188800) times
-    → AreUnitsOf shown_at base units packets times
+    → AreOwnUnits shown_at base units packets times
     → (removed (map (λ (unit : Removal). record { due = removed_at shown_at base (pos unit.due); bytes = unit.bytes }) units) ≡ spread (payload_sizes packets) times)
     × (map (λ (removal : Removal). removal.due) (map (λ (unit : Removal). record { due = removed_at shown_at base (pos unit.due); bytes = unit.bytes }) units) ≡ times)
     × (sum_by (λ (unit : Removal). unit.bytes) units ≡ sum_by (λ (packet : PesUnit). length (pes_payload_of packet)) packets)
@@ -222,7 +222,7 @@ none-there (x ∷ xs) is = absurd (omega (arith, is))
 -- ---- the whole
 
 module _ (laws : PacketLaws) (file : List ℕ) (list : List PacketRecord) (pid program : ℕ) (row : ProgramRow) (choice : List ℕ) (pes : List PesUnit) (times : List ℕ) (headers : Headers)
-    (is : IsVideoOf file list pid row choice pes times) (beside : AllZip (IsPayloadOf headers) (payloads_on pid list) (video_queue program row choice).packets)
+    (is : CarriesVideo file list pid row choice pes times) (beside : AllZip (IsPayloadOf headers) (payloads_on pid list) (video_queue program row choice).packets)
     (data_behind : All (λ (p : Payload). header_bytes p < length p.bytes) (payloads_on pid list)) where
   abbrev on_pid : List CarriedPayload
   on_pid = carried (pid_pieces file pid 0 (piece_count file))
@@ -308,7 +308,7 @@ module _ (laws : PacketLaws) (file : List ℕ) (list : List PacketRecord) (pid p
 
   -- what is removed from it
   pub removals-allowed : (shown_at : ℕ) (kept_units : KeptUnits) → shown_at < 2576980377600 → All (λ (at : ℕ). at < 1288490188800) times
-      → AreUnitsOf shown_at kept_units.base kept_units.units pes times → IsAllowed (Video program row.vbv) headers (video_queue program row choice).packets (unit_removals shown_at kept_units)
+      → AreOwnUnits shown_at kept_units.base kept_units.units pes times → IsAllowed (Video program row.vbv) headers (video_queue program row choice).packets (unit_removals shown_at kept_units)
   removals-allowed shown_at kept_units below soon are =
       let removals = removals-are shown_at kept_units.base kept_units.units pes times below soon are in
       let whole : All (λ (bytes : List ℕ). header_length bytes ≤ length bytes) sent_bytes = λ k d within. (let low = fits k d within in omega (arith, low)) in
@@ -329,13 +329,13 @@ module _ (laws : PacketLaws) (file : List ℕ) (list : List PacketRecord) (pid p
 
   -- all of its bytes are kept
   pub bytes-kept : (shown_at : ℕ) (kept_units : KeptUnits) → shown_at < 2576980377600 → All (λ (at : ℕ). at < 1288490188800) times
-      → AreUnitsOf shown_at kept_units.base kept_units.units pes times → bytes_of_units kept_units ≡ sum_by (λ (packet : PesUnit). length (pes_payload_of packet)) pes
+      → AreOwnUnits shown_at kept_units.base kept_units.units pes times → bytes_of_units kept_units ≡ sum_by (λ (packet : PesUnit). length (pes_payload_of packet)) pes
   bytes-kept shown_at kept_units below soon are = (removals-are shown_at kept_units.base kept_units.units pes times below soon are).2
 
 -- what an audit takes of it
 pub video-found : PacketLaws
     → (file : List ℕ) (list : List PacketRecord) (slot pid program base : ℕ) (row : ProgramRow) (choice : List ℕ) (pes : List PesUnit) (times : List ℕ) (kept_units : KeptUnits)
-    (stream : AuditedStream) (found : Option Finding) → IsVideoOf file list pid row choice pes times → (is_clean : IsCleanOn slot pid (video_queue program row choice) list)
+    (stream : AuditedStream) (found : Option Finding) → CarriesVideo file list pid row choice pes times → (is_clean : IsCleanOn slot pid (video_queue program row choice) list)
     → All (λ (p : Payload). header_bytes p < length p.bytes) (payloads_on pid list) → first_sequence (joined pes) ≡ Some 0 → base < 2576980377600 → All (λ (at : ℕ). at < 1288490188800) times
     → AreKeptOf base pes times row.vbv kept_units → IsVideoStream file base kept_units pid pes stream → FindsOn slot stream found → IsFullAtMost found
 video-found laws file list slot pid program base row choice pes times kept_units stream found is is_clean data_behind first below soon kept_are audited finds =

@@ -11,7 +11,7 @@ use Rattle.version_table.specs.declared.table.ProgramRow.{ProgramRow}
 use Rattle.version_table.specs.Choice.{version_at}
 
 -- The packets of a file are these, those of the PID counted, and its PES packets these: as long as the chosen versions of a row's units, which are due at these times.
-pub record IsVideoOf (file : List ℕ) (list : List PacketRecord) (pid : ℕ) (row : ProgramRow) (choice : List ℕ) (pes : List PesUnit) (times : List ℕ) : Type 0 where
+pub record CarriesVideo (file : List ℕ) (list : List PacketRecord) (pid : ℕ) (row : ProgramRow) (choice : List ℕ) (pes : List PesUnit) (times : List ℕ) : Type 0 where
   pub read : packets file ≡ map Some list
   pub counted : AreCounted pid list
   pub pes_are : pes ≡ units_in (pid_pieces file pid 0 (piece_count file))

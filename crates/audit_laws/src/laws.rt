@@ -26,7 +26,7 @@ ghost use Rattle.stream_audit.specs.Streams.{IsVideoStream, system_stream};
 ghost use Rattle.clean_laws.specs.Arrivals.{header_bytes, section_arrivals};
 ghost use Rattle.clean_laws.specs.Clean.{IsCleanOn};
 ghost use Rattle.time_laws.specs.Clock.{IsClock};
-ghost use Rattle.audit_laws.specs.Carried.{IsVideoOf};
+ghost use Rattle.audit_laws.specs.Carried.{CarriesVideo};
 ghost use Rattle.audit_laws.specs.Found.{IsFullAtMost};
 ghost use Rattle.audit_laws.specs.Headers.{HaveNoLessHeaders};
 ghost use Rattle.audit_laws.specs.Kept.{AreKeptOf};
@@ -59,7 +59,7 @@ pub fn sections_are_clean()
 pub fn video_is_clean()
     ensures { (file : List ℕ) (list : List PacketRecord) (slot pid program base : ℕ) (row : ProgramRow) (choice : List ℕ) (pes : List PesUnit) (times : List ℕ) (kept : KeptUnits)
         (stream : AuditedStream) (found : Option Finding)
-        → IsVideoOf file list pid row choice pes times → IsCleanOn slot pid (video_queue program row choice) list
+        → CarriesVideo file list pid row choice pes times → IsCleanOn slot pid (video_queue program row choice) list
         → All (λ payload. header_bytes payload < length payload.bytes) (payloads_on pid list) → first_sequence (joined pes) ≡ Some 0
         → base < PCR_MODULUS → All (λ at. at < PCR_MODULUS / 2) times → AreKeptOf base pes times row.vbv kept
         → IsVideoStream file base kept pid pes stream → FindsOn slot stream found → IsFullAtMost found }
