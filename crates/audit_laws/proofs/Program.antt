@@ -1,0 +1,265 @@
+-- A program of a stream that is clean by its own times: what an audit finds on it.
+use Rattle.std.proofs.Common.{◌≡◌, ◌≢◌, ℕ, suc, ◌+◌, ◌*◌, ◌<◌, ◌≤◌, ◌==◌, ◌||◌, Bool, true, false, List}
+use Rattle.std.proofs.Common.{[], ◌∷◌, ◌++◌, All, length, map, Option, Some, None, refl, sym, ap, subst, ◌∙◌, arith, inl, inr}
+use Rattle.std.specs.List.{range_with_len}
+use Rattle.std.specs.List.Sorted.{IsStrictlyIncreasing}
+use Rattle.std.proofs.lemmas.Bool.{eqb-true}
+use Rattle.std.proofs.lemmas.List.{length-map}
+use Rattle.std.proofs.lemmas.List.Elements.{All-map}
+use Rattle.std.proofs.lemmas.Option.{none-some, same_Some}
+use Rattle.bit_lists.specs.Payload.{Payload}
+use Rattle.ts_packets.specs.Packet.{PacketRecord}
+use Rattle.ts_packets.specs.TransportStream.{is_of_pid, packets, piece_at, piece_count, pid_pieces}
+use Rattle.ts_packets.specs.Carried.{payloads_on, pid_fault}
+use Rattle.psi_tables.specs.declared.stream.Stream.{Stream}
+use Rattle.version_table.specs.declared.table.Unit.{Unit as CodedUnit}
+use Rattle.version_table.specs.declared.table.ProgramRow.{ProgramRow}
+use Rattle.slot_rule.specs.Queues.{video_queue}
+use Rattle.tstd_model.specs.declared.decoder_input.BufferKind.TheVariants.{System}
+use Rattle.tstd_model.specs.declared.fault.TstdFault.{TstdFault}
+use Rattle.tstd_model.specs.Faults.{IsFault}
+use Rattle.mux_writer.specs.Layout.{map_pid, video_pid}
+use Rattle.layer_laws.specs.Counted.{AreCounted}
+use Rattle.ts_demux.specs.declared.demuxed.AudioStream.{AudioStream}
+use Rattle.ts_demux.specs.declared.demuxed.Demuxed.{Demuxed}
+use Rattle.ts_demux.specs.declared.demuxed.PesUnit.{PesUnit}
+use Rattle.ts_demux.specs.Demux.{AreStreamsSound, IsDemuxed, units_in}
+use Rattle.ts_demux.specs.Streams.{is_among}
+use Rattle.ts_demux.specs.Tables.{IsMapPid}
+use Rattle.elementary_streams.specs.Packets.{joined}
+use Rattle.es_units.specs.Units.{first_sequence}
+use Rattle.ts_demux.specs.PidPlaces.{places_on}
+use Rattle.stream_audit.specs.declared.audited_stream.AuditedStream.{AuditedStream}
+use Rattle.stream_audit.specs.Clock.{clock_of, first_off}
+use Rattle.stream_audit.specs.declared.file_clock.FoundClock.{FoundClock}
+use Rattle.stream_audit.specs.declared.finding.Finding.{Finding}
+use Rattle.stream_audit.specs.declared.kept_units.KeptUnits.{KeptUnits}
+use Rattle.stream_audit.specs.Audit.{AreStreamsOf, IsAudited}
+use Rattle.stream_audit.specs.Findings.{FindsBy, FindsFirst, FindsOn}
+use Rattle.stream_audit.specs.Refusals.{IsProgramRead}
+use Rattle.stream_audit.specs.Streams.{IsVideoStream, system_stream}
+use Rattle.clean_laws.specs.Arrivals.{header_bytes, section_arrivals}
+use Rattle.clean_laws.specs.Clean.{IsCleanOn}
+use Rattle.time_laws.specs.Carried.{CarriesTimes}
+use Rattle.time_laws.specs.Clock.{IsClock}
+use Rattle.time_laws.specs.Video.{AreDecoded, DecodedPicture}
+use Rattle.audit_laws.specs.Carried.{CarriesVideo}
+use Rattle.audit_laws.specs.Kept.{AreKeptOf}
+use Rattle.audit_laws.specs.Found.{IsFullAtMost, IsFullOrOn}
+use Rattle.audit_laws.specs.Written.{IsFoundClean}
+use Rattle.audit_laws.proofs.Parsed.{IsTakenAt}
+use Rattle.audit_laws.proofs.Places.{as-many}
+use Rattle.audit_laws.proofs.Streams.{all-streams}
+
+-- ---- the laws below, as this proof calls them
+
+pub record ProgramLaws : Type 0 where
+  pub one : (file : List ℕ) (program : ℕ) (drop : List ℕ) (one other : Demuxed) → IsDemuxed file program drop one → IsDemuxed file program drop other → one ≡ other
+  pub no_fault : (file : List ℕ) (list : List PacketRecord) (pid from n : ℕ) → packets file ≡ map Some list → AreCounted pid list → from ≤ n → n < length list → is_of_pid file pid n ≡ true
+      → pid_fault (pid_pieces file pid from n) (record { at = 188 * n; bytes = piece_at file n }) ≡ None
+  pub zero_is : (file : List ℕ) (list : List PacketRecord) (slot pid base : ℕ) → packets file ≡ map Some list → AreCounted pid list → IsClock list slot pid base
+      → clock_of slot (places_on file pid) ≡ Some base
+  pub off_is : (file : List ℕ) (list : List PacketRecord) (slot pid base : ℕ) → packets file ≡ map Some list → AreCounted pid list → IsClock list slot pid base
+      → first_off slot base (places_on file pid) ≡ None
+  pub sections : (file : List ℕ) (list : List PacketRecord) (slot map_pid : ℕ) (found : Option Finding) → packets file ≡ map Some list → AreCounted 0 list → AreCounted map_pid list
+      → ((fault : TstdFault) → IsFault slot System (section_arrivals map_pid list) [] fault → ⊥) → FindsOn slot (system_stream file map_pid) found → IsFullAtMost found
+  pub video : (file : List ℕ) (list : List PacketRecord) (slot pid program base : ℕ) (row : ProgramRow) (choice : List ℕ) (pes : List PesUnit) (times : List ℕ) (kept : KeptUnits)
+      (stream : AuditedStream) (found : Option Finding) → CarriesVideo file list pid row choice pes times → IsCleanOn slot pid (video_queue program row choice) list
+      → All (λ (p : Payload). header_bytes p < length p.bytes) (payloads_on pid list) → first_sequence (joined pes) ≡ Some 0 → base < 2576980377600 → All (λ (at : ℕ). at < 1288490188800) times
+      → AreKeptOf base pes times row.vbv kept → IsVideoStream file base kept pid pes stream → FindsOn slot stream found → IsFullAtMost found
+
+-- What is known of a program of a stream.
+pub record IsProgramIn (file : List ℕ) (list : List PacketRecord) (slot place number : ℕ) (row : ProgramRow) (choice : List ℕ) : Type 0 where
+  pub read : packets file ≡ map Some list
+  pub counted : (pid : ℕ) → pid ≢ 8191 → AreCounted pid list
+  pub few : place < 8
+  pub short : length file ≤ 536870912
+  pub times : CarriesTimes file list slot place number row choice
+  pub taken : IsTakenAt file place number
+  pub is_clean : IsCleanOn slot (video_pid place) (video_queue place row choice) list
+  pub data_behind : All (λ (p : Payload). header_bytes p < length p.bytes) (payloads_on (video_pid place) list)
+  pub sections : (fault : TstdFault) → IsFault slot System (section_arrivals (map_pid place) list) [] fault → ⊥
+  pub rise : IsStrictlyIncreasing (map (λ (unit : CodedUnit). unit.due) row.units)
+  pub soon : All (λ (unit : CodedUnit). unit.due < 1288490188800) row.units
+
+-- the list of pictures is as long as that of PES packets
+decoded-many : (base : ℕ) (earlier : List DecodedPicture) (packets : List PesUnit) (pictures : List DecodedPicture) → AreDecoded base earlier packets pictures → length packets ≡ length pictures
+decoded-many base earlier [] [] are = refl
+decoded-many base earlier [] (p ∷ ps) are = absurd are
+decoded-many base earlier (q ∷ qs) [] are = absurd are
+decoded-many base earlier (q ∷ qs) (p ∷ ps) are = ap suc (decoded-many base (p ∷ earlier) qs ps are.1)
+
+head_of : List ℕ → ℕ
+head_of [] = 0
+head_of (x ∷ xs) = x
+
+module _ (laws : ProgramLaws) (file : List ℕ) (list : List PacketRecord) (slot place number : ℕ) (row : ProgramRow) (choice : List ℕ)
+    (is : IsProgramIn file list slot place number row choice) where
+  abbrev demuxed : Demuxed
+  demuxed = is.times.demuxed
+
+  abbrev pictures : List DecodedPicture
+  pictures = is.times.first ∷ is.times.later
+
+  abbrev ats : List ℕ
+  ats = map (λ (picture : DecodedPicture). picture.at) (is.times.first ∷ is.times.later)
+
+  taken-same : is.taken.demuxed ≡ is.times.demuxed
+  taken-same = laws.one file number [] is.taken.demuxed is.times.demuxed is.taken.taken_out is.times.taken_out
+
+  pcr-pid : is.times.demuxed.map.pcr_pid ≡ video_pid place
+  pcr-pid = ap (λ (d : Demuxed). d.map.pcr_pid) (sym taken-same) ∙ is.taken.pcr
+
+  begins : first_sequence (joined is.times.demuxed.video) ≡ Some 0
+  begins = ap (λ (d : Demuxed). first_sequence (joined d.video)) (sym taken-same) ∙ is.taken.begins
+
+  video-counted : AreCounted (video_pid place) list
+  video-counted = is.counted (video_pid place) (λ same. omega (arith, same, is.few))
+
+  map-counted : AreCounted (map_pid place) list
+  map-counted = is.counted (map_pid place) (λ same. omega (arith, same, is.few))
+
+  pat-counted : AreCounted 0 list
+  pat-counted = is.counted 0 (λ same. omega (arith, same))
+
+  -- ---- the clock
+
+  pcr-counted : AreCounted is.times.demuxed.map.pcr_pid list
+  pcr-counted = subst (λ (pid : ℕ). AreCounted pid list) (sym pcr-pid) video-counted
+
+  zero-found : clock_of slot (places_on file is.times.demuxed.map.pcr_pid) ≡ Some is.times.base
+  zero-found = laws.zero_is file list slot is.times.demuxed.map.pcr_pid is.times.base is.read pcr-counted is.times.clock
+
+  off-found : first_off slot is.times.base (places_on file is.times.demuxed.map.pcr_pid) ≡ None
+  off-found = laws.off_is file list slot is.times.demuxed.map.pcr_pid is.times.base is.read pcr-counted is.times.clock
+
+  abbrev clock : FoundClock
+  clock = record { zero = is.times.base; off = None }
+
+  -- ---- nothing is refused
+
+  among-one : (pid p : ℕ) → is_among (pid ∷ []) p ≡ true → pid ≡ p
+  among-one pid p among = by_test (pid == p) refl among
+    where
+      by_test : (b : Bool) → (pid == p) ≡ b → (b || false) ≡ true → pid ≡ p
+      by_test true same passes = eqb-true pid p same
+      by_test false same passes = absurd cc
+
+  sound-on : (pid : ℕ) → AreCounted pid list → AreStreamsSound file (pid ∷ [])
+  sound-on pid counted n fault (inl unsynced) = is.times.taken_out.sound n fault (inl unsynced)
+  sound-on pid counted n fault (inr (p, found, among, hits, said)) =
+      let same : pid ≡ p = among-one pid p among in
+      none-some found
+      (sym (laws.no_fault file list p 0 n is.read (subst (λ (k : ℕ). AreCounted k list) same counted) hits.behind
+      (subst (λ (k : ℕ). n < k) (as-many file list is.read) hits.within) hits.of_pid) ∙ hits.fault_is)
+
+  map-is : IsMapPid file number (map_pid place)
+  map-is = record { packet = is.times.map_pid_is.packet; index = is.times.map_pid_is.index; takes = is.times.map_pid_is.taken }
+
+  read-of : IsProgramRead file number slot is.times.demuxed (map_pid place) clock
+  read-of = record {
+    tables = record {
+      file_fits = is.short;
+      taken_out = is.times.taken_out;
+      map_is = map-is;
+      pat_sound = sound-on 0 pat-counted;
+      map_sound = sound-on (map_pid place) map-counted;
+    };
+    clock_is = record {
+      known = λ same. omega (arith, same, pcr-pid, is.few);
+      sound = sound-on is.times.demuxed.map.pcr_pid pcr-counted;
+      zero_is = zero-found;
+      off_is = sym off-found;
+    };
+  }
+
+  -- ---- the video
+
+  video-is : (video : Stream) (audios : List Stream) → is.times.demuxed.map.streams.items ≡ video ∷ audios → video.pid ≡ video_pid place
+  unfolding head_of
+  video-is video audios streams =
+      ap head_of
+      (sym (ap (map (λ (stream : Stream). stream.pid)) streams) ∙ is.times.pids
+      ∙ ap (range_with_len (video_pid place)) (let e : 1 + length row.audios ≡ suc (length row.audios) = omega arith in e))
+
+  pes-are : is.times.demuxed.video ≡ units_in (pid_pieces file (video_pid place) 0 (piece_count file))
+  pes-are =
+      let out = is.times.taken_out in
+      out.video_packets ∙ ap (λ (pid : ℕ). units_in (pid_pieces file pid 0 (piece_count file))) (video-is out.video out.audios out.streams)
+
+  of-video : CarriesVideo file list (video_pid place) row choice is.times.demuxed.video ats
+  of-video = record {
+    read = is.read;
+    counted = video-counted;
+    pes_are = pes-are;
+    sizes = is.times.sizes;
+    dues = is.times.dues;
+    many = decoded-many is.times.base [] is.times.demuxed.video pictures is.times.decoded ∙ sym (length-map pictures (λ (picture : DecodedPicture). picture.at));
+    rise = is.rise;
+  }
+
+  soon-shown : All (λ (at : ℕ). at < 1288490188800) ats
+  soon-shown = subst (All (λ (at : ℕ). at < 1288490188800)) is.times.dues (All-map (λ (at : ℕ). at < 1288490188800) (λ (unit : CodedUnit). unit.due) row.units is.soon)
+
+  -- ---- what is found
+
+  found-of : (kept : KeptUnits) (found : Option Finding) → AreKeptOf is.times.base is.times.demuxed.video ats is.times.first.seq.vbv kept → IsAudited file number slot kept found
+      → IsFullOrOn (map (λ (audio : AudioStream). audio.pid) is.times.demuxed.audios) found
+  found-of kept found kept_are audited = by_demuxed audited.demuxed audited.map_pid audited.clock audited.streams same map-same clock-same off-none audited.streams_are audited.first
+    where
+      same : audited.demuxed ≡ is.times.demuxed
+      same = laws.one file number [] audited.demuxed is.times.demuxed audited.read.tables.taken_out is.times.taken_out
+
+      map-same : audited.map_pid ≡ map_pid place
+      map-same =
+          let takes = audited.read.tables.map_is.takes in
+          is.times.map_pid_is.only audited.read.tables.map_is.packet audited.read.tables.map_is.index audited.map_pid takes.found takes.section takes.names
+
+      clock-same : audited.clock.zero ≡ is.times.base
+      clock-same =
+          same_Some audited.clock.zero is.times.base
+          (sym audited.read.clock_is.zero_is ∙ ap (λ (d : Demuxed). clock_of slot (places_on file d.map.pcr_pid)) same ∙ zero-found)
+
+      off-none : audited.clock.off ≡ None
+      off-none =
+          audited.read.clock_is.off_is ∙ ap (λ (base : ℕ). first_off slot base (places_on file audited.demuxed.map.pcr_pid)) clock-same
+          ∙ ap (λ (d : Demuxed). first_off slot is.times.base (places_on file d.map.pcr_pid)) same ∙ off-found
+
+      by_demuxed : (d : Demuxed) (pid : ℕ) (c : FoundClock) (streams : List AuditedStream) → d ≡ is.times.demuxed → pid ≡ map_pid place → c.zero ≡ is.times.base → c.off ≡ None
+          → AreStreamsOf file pid c.zero kept d streams → FindsBy slot d.map.pcr_pid c.off streams found
+          → IsFullOrOn (map (λ (audio : AudioStream). audio.pid) is.times.demuxed.audios) found
+      by_demuxed d pid c streams d-is pid-is zero-is off-is are finds =
+          subst (λ (e : Demuxed). IsFullOrOn (map (λ (audio : AudioStream). audio.pid) e.audios) found) d-is
+          (all-streams file slot c.zero kept are.video_stream d.audios are.audio_streams (system_stream file pid) found are.are_audio
+          (λ found_one finds_one.
+          laws.video file list slot (video_pid place) place is.times.base row choice is.times.demuxed.video ats kept are.video_stream found_one of-video is.is_clean is.data_behind
+          begins is.times.clock.below soon-shown (record { units = kept_are.units; buffer = kept_are.buffer ∙ sym is.times.buffer }) of_video finds_one)
+          (λ found_one finds_one.
+          laws.sections file list slot (map_pid place) found_one is.read pat-counted map-counted is.sections
+          (subst (λ (k : ℕ). FindsOn slot (system_stream file k) found_one) pid-is finds_one))
+          by_off)
+        where
+          of_video : IsVideoStream file is.times.base kept (video_pid place) is.times.demuxed.video are.video_stream
+          of_video =
+              subst (λ (k : ℕ). IsVideoStream file is.times.base kept k is.times.demuxed.video are.video_stream)
+              (video-is are.video are.others (ap (λ (e : Demuxed). e.map.streams.items) (sym d-is) ∙ are.video_is))
+              (subst (λ (z : ℕ). IsVideoStream file z kept are.video.pid is.times.demuxed.video are.video_stream) zero-is
+              (subst (λ (e : Demuxed). IsVideoStream file c.zero kept are.video.pid e.video are.video_stream) d-is are.is_video))
+
+          by_off : FindsFirst slot (are.video_stream ∷ are.audio_streams ++ system_stream file pid ∷ []) found
+          by_off =
+              subst (λ (ss : List AuditedStream). FindsFirst slot ss found) are.streams_are
+              (subst (λ (off : Option ℕ). FindsBy slot d.map.pcr_pid off streams found) off-is finds)
+
+  pub found-clean : IsFoundClean file slot number
+  found-clean = record {
+    demuxed = is.times.demuxed;
+    map_pid = map_pid place;
+    clock = clock;
+    read = read-of;
+    none_off = refl;
+    first = is.times.first;
+    later = is.times.later;
+    decoded = is.times.decoded;
+    found = found-of;
+  }

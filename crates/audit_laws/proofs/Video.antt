@@ -1,0 +1,362 @@
+-- The video of a stream that is clean by its own times, as an audit judges it: what comes to its decoder and what is removed from it is what the stream is clean for.
+use Rattle.std.proofs.Common.{◌≡◌, ℕ, suc, ◌+◌, ◌-◌, ◌*◌, ◌%◌, ◌<◌, ◌≤◌, ◌==◌, ◌&&◌, nat_lt, not, Bool, true, false, cond, if◌then◌else◌, List, [], ◌∷◌}
+use Rattle.std.proofs.Common.{◌++◌, All, length, map, replicate, take, Option, Some, refl, sym, ap, ap₂, subst, ◌∙◌, arith, length-append, ℤ, pos, ◌+ℤ◌, ◌-ℤ◌, ◌*ℤ◌}
+use Rattle.std.specs.List.{AllZip, flat_map, sum_by, zip}
+use Rattle.std.specs.List.Sorted.{IsNonDecreasing, IsStrictlyIncreasing}
+use Rattle.std.proofs.lemmas.Bool.{and_right, le-leb, ltb-false, ltb-true}
+use Rattle.std.proofs.lemmas.Int.{ints}
+use Rattle.std.proofs.lemmas.List.{append-nil, length-drop, length-map, length-replicate}
+use Rattle.std.proofs.lemmas.List.Elements.{All-cons, All-head, All-nil, All-tail}
+use Rattle.std.proofs.lemmas.List.Folds.{flat_map-map}
+use Rattle.std.proofs.lemmas.List.Sums.{sum_by-cons}
+use Rattle.std.proofs.lemmas.Option.{same_Some}
+use Rattle.std.proofs.lemmas.Simd.{map-map}
+use Rattle.bit_lists.specs.Payload.{CarriedPayload, Payload, is_start}
+use Rattle.pes_units.specs.PesHeader.{header_length, is_header_whole}
+use Rattle.pes_units.specs.PesPackets.{Gathered, gathered, is_cut, is_dropped, up_to_start}
+use Rattle.ts_packets.specs.Packet.{PacketRecord}
+use Rattle.ts_packets.specs.Carried.{carried, payloads_on}
+use Rattle.ts_packets.specs.TransportStream.{packets, pid_pieces, piece_count}
+use Rattle.version_table.proofs.Rising.{Adjacent, adjacent_steady, rising_adjacent}
+use Rattle.version_table.specs.declared.table.Unit.{Unit as CodedUnit}
+use Rattle.version_table.specs.declared.table.ProgramRow.{ProgramRow}
+use Rattle.version_table.specs.Choice.{version_at}
+use Rattle.slot_rule.specs.declared.queue_kind.QueueKind.TheVariants.{Video}
+use Rattle.slot_rule.specs.declared.queued_packet.QueuedPacket.{QueuedPacket}
+use Rattle.slot_rule.specs.Queues.{video_queue}
+use Rattle.tstd_model.specs.declared.decoder_input.Arrival.{Arrival}
+use Rattle.tstd_model.specs.declared.decoder_input.BufferKind.TheVariants.{Video as VideoBuffers}
+use Rattle.tstd_model.specs.declared.decoder_input.PacketPart.{PacketPart}
+use Rattle.tstd_model.specs.declared.decoder_input.PacketPart.TheVariants.{Overhead, PesHeader, Data}
+use Rattle.tstd_model.specs.declared.decoder_input.Removal.{Removal}
+use Rattle.tstd_model.specs.Decoder.{removed}
+use Rattle.tstd_model.specs.PacketBytes.{is_data, kept}
+use Rattle.tstd_bridge.specs.Arrivals.{Headers}
+use Rattle.tstd_bridge.specs.Removals.{IsAllowed, wanted_of_each}
+use Rattle.ts_demux.specs.declared.demuxed.PesUnit.{PesUnit}
+use Rattle.ts_demux.specs.declared.pid_places.Place.{Place}
+use Rattle.ts_demux.specs.PidPlaces.{places_on}
+use Rattle.elementary_streams.specs.Packets.{joined, pes_payload_of, taken}
+use Rattle.stream_audit.specs.declared.audited_stream.AuditedStream.{AuditedStream}
+use Rattle.stream_audit.specs.declared.finding.Finding.{Finding}
+use Rattle.stream_audit.specs.declared.kept_units.KeptUnits.{KeptUnits}
+use Rattle.stream_audit.specs.Findings.{FindsOn}
+use Rattle.stream_audit.specs.PesBytes.{brought_by_all, bytes_before}
+use Rattle.stream_audit.specs.Removals.{not_before_zero, removed_at, bytes_of_units, unit_removals}
+use Rattle.stream_audit.specs.Streams.{IsVideoStream, arrivals_by}
+use Rattle.es_units.specs.Units.{first_sequence}
+use Rattle.tstd_model.specs.Faults.{IsFault}
+use Rattle.clean_laws.specs.Arrivals.{arrivals_on, header_bytes}
+use Rattle.clean_laws.specs.Clean.{IsCleanOn, IsPayloadOf}
+use Rattle.time_laws.specs.Clock.{IsFirstShown}
+use Rattle.audit_laws.specs.Carried.{CarriesVideo}
+use Rattle.audit_laws.specs.Found.{IsFullAtMost}
+use Rattle.audit_laws.specs.Kept.{AreKeptOf, AreOwnUnits}
+use Rattle.audit_laws.proofs.Found.{found-on}
+use Rattle.audit_laws.proofs.Arrivals.{arrivals-are, parts-many, parts_of_payload, payload-parts}
+use Rattle.audit_laws.proofs.Gathered.{LeavesData, fits-gathered, parts-gathered, plain_parts, whole-parts}
+use Rattle.audit_laws.proofs.Places.{PacketLaws, as-many, places-are, places_by}
+use Rattle.audit_laws.proofs.Removed.{chosen_dues, chosen_sizes, packets-kept, queue-kept, spread, video-gone, video-wanted, wanted_with_headers}
+
+-- ---- times
+
+-- what is due when the clock first shows a time is removed then
+half : (shown_at base due at : ℕ) (turns : ℤ) → shown_at < 2576980377600 → at < 1288490188800 → due < 1288490188800
+    → pos (shown_at + at) ≡ (pos (base + due) +ℤ turns *ℤ pos 2576980377600) → (base + (2576980377600 - shown_at % 2576980377600)) % 2576980377600 < 1288490188800
+    → due + (base + (2576980377600 - shown_at % 2576980377600)) % 2576980377600 ≡ at
+half shown_at base due at turns below soon early shown low = omega (arith, ints)
+
+behind : (shown_at base due at : ℕ) (turns : ℤ) → shown_at < 2576980377600 → at < 1288490188800 → due < 1288490188800
+    → pos (shown_at + at) ≡ (pos (base + due) +ℤ turns *ℤ pos 2576980377600) → 1288490188800 ≤ (base + (2576980377600 - shown_at % 2576980377600)) % 2576980377600
+    → (pos due +ℤ (pos ((base + (2576980377600 - shown_at % 2576980377600)) % 2576980377600) -ℤ pos 2576980377600)) ≡ pos at
+behind shown_at base due at turns below soon early shown high = omega (arith, ints)
+
+pub removed-when : (shown_at base due at : ℕ) → shown_at < 2576980377600 → at < 1288490188800 → due < 1288490188800 → IsFirstShown shown_at (pos (base + due)) at
+    → removed_at shown_at base (pos due) ≡ at
+removed-when shown_at base due at below soon early shown = by_test (nat_lt from 1288490188800) refl
+  where
+    from : ℕ
+    from = (base + (2576980377600 - shown_at % 2576980377600)) % 2576980377600
+
+    by_test : (b : Bool) → nat_lt ((base + (2576980377600 - shown_at % 2576980377600)) % 2576980377600) 1288490188800 ≡ b → removed_at shown_at base (pos due) ≡ at
+    by_test true is = rw is (half shown_at base due at shown.shown.0 below soon early shown.shown.1 (ltb-true ((base + (2576980377600 - shown_at % 2576980377600)) % 2576980377600) 1288490188800 is))
+    by_test false is = rw is (ap not_before_zero
+        (behind shown_at base due at shown.shown.0 below soon early shown.shown.1 (ltb-false ((base + (2576980377600 - shown_at % 2576980377600)) % 2576980377600) 1288490188800 is)))
+
+-- ---- what is removed
+
+abbrev pub payload_sizes : List PesUnit → List ℕ
+payload_sizes packets = map (λ (packet : PesUnit). length (pes_payload_of packet)) packets
+
+removals-are : (shown_at base : ℕ) (units : List Removal) (packets : List PesUnit) (times : List ℕ) → shown_at < 2576980377600 → All (λ (at : ℕ). at < 1288490188800) times
+    → AreOwnUnits shown_at base units packets times
+    → (removed (map (λ (unit : Removal). record { due = removed_at shown_at base (pos unit.due); bytes = unit.bytes }) units) ≡ spread (payload_sizes packets) times)
+    × (map (λ (removal : Removal). removal.due) (map (λ (unit : Removal). record { due = removed_at shown_at base (pos unit.due); bytes = unit.bytes }) units) ≡ times)
+    × (sum_by (λ (unit : Removal). unit.bytes) units ≡ sum_by (λ (packet : PesUnit). length (pes_payload_of packet)) packets)
+unfolding removed
+removals-are shown_at base [] [] [] below soon are = (refl, refl, refl)
+removals-are shown_at base [] [] (t ∷ ts) below soon are = absurd are
+removals-are shown_at base [] (p ∷ ps) times below soon are = absurd are
+removals-are shown_at base (u ∷ us) [] times below soon are = absurd are
+removals-are shown_at base (u ∷ us) (p ∷ ps) [] below soon are = absurd are
+removals-are shown_at base (u ∷ us) (p ∷ ps) (t ∷ ts) below soon are =
+    let at : removed_at shown_at base (pos u.due) ≡ t = removed-when shown_at base u.due t below (All-head (λ (at : ℕ). at < 1288490188800) t ts soon) are.0.early are.0.when in
+    let rest = removals-are shown_at base us ps ts below (All-tail (λ (at : ℕ). at < 1288490188800) t ts soon) are.1 in (
+      ap₂ (λ (xs ys : List ℕ). xs ++ ys) (ap₂ (λ (n k : ℕ). replicate n (940 * k)) are.0.bytes at) rest.0,
+      ap₂ (λ (x : ℕ) (xs : List ℕ). x ∷ xs) at rest.1,
+      sum_by-cons (λ (unit : Removal). unit.bytes) u us ∙ ap₂ (λ (x y : ℕ). x + y) are.0.bytes rest.2
+          ∙ sym (sum_by-cons (λ (packet : PesUnit). length (pes_payload_of packet)) p ps),
+    )
+
+-- ---- payloads
+
+of-map : {A B : Type 0} (P : B → Type 0) (f : A → B) (xs : List A) (ys : List B) → map f xs ≡ ys → All P ys → All (λ x. P (f x)) xs
+of-map P f xs ys same all = from xs (subst (All P) (sym same) all)
+  where
+    from : (xs : List _) → All P (map f xs) → All (λ x. P (f x)) xs
+    from [] all = All-nil (λ x. P (f x))
+    from (x ∷ xs) all = All-cons (λ x. P (f x)) x xs (All-head P (f x) (map f xs) all) (from xs (All-tail P (f x) (map f xs) all))
+
+queue-many : (headers : Headers) (payloads : List Payload) (packets : List QueuedPacket) → AllZip (IsPayloadOf headers) payloads packets
+    → length (flat_map parts_of_payload payloads) ≡ length (wanted_with_headers packets)
+queue-many headers [] [] zip = refl
+queue-many headers [] (q ∷ qs) zip = absurd zip
+queue-many headers (p ∷ ps) [] zip = absurd zip
+queue-many headers (p ∷ ps) (q ∷ qs) zip =
+    let size : length p.bytes ≡ q.payload = zip.0.size in
+    length-append (parts_of_payload p) (flat_map parts_of_payload ps)
+    ∙ ap₂ (λ (x y : ℕ). x + y) (parts-many p ∙ size ∙ sym (length-replicate q.payload (940 * q.due))) (queue-many headers ps qs zip.1)
+    ∙ sym (length-append (replicate q.payload (940 * q.due)) (wanted_with_headers qs))
+
+spread-many : (packets : List (List ℕ)) (times : List ℕ) → All (λ (bytes : List ℕ). header_length bytes < length bytes) packets → length packets ≡ length times
+    → length (spread (map (λ (bytes : List ℕ). length bytes) packets) times) ≡ length (plain_parts packets)
+spread-many [] times fits many = refl
+spread-many (b ∷ bs) [] fits many = absurd (omega (arith, many))
+spread-many (b ∷ bs) (t ∷ ts) fits many =
+    let low : header_length b < length b = All-head (λ (bytes : List ℕ). header_length bytes < length bytes) b bs fits in
+    let own : length (replicate (header_length b) PesHeader ++ replicate (length b - header_length b) Data) ≡ length b =
+    length-append (replicate (header_length b) PesHeader) (replicate (length b - header_length b) Data)
+    ∙ ap₂ (λ (x y : ℕ). x + y) (length-replicate (header_length b) PesHeader) (length-replicate (length b - header_length b) Data)
+    ∙ (let e : header_length b + (length b - header_length b) ≡ length b = omega (arith, low) in e) in
+    length-append (replicate (length b) (940 * t)) (spread (map (λ (bytes : List ℕ). length bytes) bs) ts)
+    ∙ ap₂ (λ (x y : ℕ). x + y) (length-replicate (length b) (940 * t) ∙ sym own)
+    (spread-many bs ts (All-tail (λ (bytes : List ℕ). header_length bytes < length bytes) b bs fits) (omega (arith, many)))
+    ∙ sym (length-append (replicate (header_length b) PesHeader ++ replicate (length b - header_length b) Data) (plain_parts bs))
+
+-- ---- what comes before the first PES packet
+
+-- the bytes of payloads before the first in which a PES packet begins
+abbrev front : List Payload → List ℕ
+front [] = []
+front (payload ∷ more) = if is_start payload then [] else payload.bytes ++ front more
+
+front-is : (carried : List CarriedPayload) → up_to_start carried ≡ front (map (λ (c : CarriedPayload). c.payload) carried)
+front-is [] = refl
+front-is (c ∷ cs) = ap (λ (rest : List ℕ). cond (is_start c.payload) [] (c.payload.bytes ++ rest)) (front-is cs)
+
+before-is : (pid from : ℕ) (list : List PacketRecord) → bytes_before (places_by (λ (packet : PacketRecord). packet.pid == pid) from list) ≡ length (front (payloads_on pid list))
+before-is pid from [] = refl
+before-is pid from (packet ∷ more) = by_tests (packet.pid == pid) packet.start (nat_lt 0 (length packet.payload)) refl refl refl (before-is pid (from + 1) more)
+  where
+    none : (bytes : List ℕ) → nat_lt 0 (length bytes) ≡ false → length bytes ≡ 0
+    none [] is = refl
+    none (byte ∷ bytes) is = absurd (let low = ltb-false 0 (suc (length bytes)) is in omega (arith, low))
+
+    no-more : 0 + length (front (payloads_on pid more)) ≡ length (front (payloads_on pid more))
+    no-more = omega arith
+
+    by_tests : (a start some : Bool) → (packet.pid == pid) ≡ a → packet.start ≡ start → nat_lt 0 (length packet.payload) ≡ some
+        → (bytes_before (places_by (λ (packet : PacketRecord). packet.pid == pid) (from + 1) more) ≡ length (front (payloads_on pid more)))
+        → bytes_before (places_by (λ (packet : PacketRecord). packet.pid == pid) from (packet ∷ more)) ≡ length (front (payloads_on pid (packet ∷ more)))
+    by_tests true true true is starts has rest =
+        rw (is, starts, has) (ap (λ (b : Bool). length (cond b [] (packet.payload ++ front (payloads_on pid more)))) (sym has))
+    by_tests true false true is starts has rest =
+        rw (is, starts, has) (ap (λ (n : ℕ). length packet.payload + n) rest ∙ sym (length-append packet.payload (front (payloads_on pid more))))
+    by_tests true true false is starts has rest = rw (is, starts, has) (ap₂ (λ (x y : ℕ). x + y) (none packet.payload has) rest ∙ no-more)
+    by_tests true false false is starts has rest = rw (is, starts, has) (ap₂ (λ (x y : ℕ). x + y) (none packet.payload has) rest ∙ no-more)
+    by_tests false start some is starts has rest = rw is rest
+
+-- ---- PES packets that are taken
+
+whole-header : (bytes : List ℕ) → header_length bytes < length bytes → is_header_whole bytes ≡ true
+whole-header bytes low =
+    ap₂ (λ (a b : Bool). a && b) (le-leb 9 (length bytes) (omega (arith, low))) (le-leb (header_length bytes) (length bytes) (omega (arith, low)))
+
+not-dropped : (bytes : List ℕ) → header_length bytes < length bytes → is_dropped true bytes ≡ false
+not-dropped bytes low = and_right (is_cut true bytes) (not (true && is_header_whole bytes)) (ap (λ (b : Bool). not (true && b)) (whole-header bytes low))
+
+all-taken : (packets : List PesUnit) → All (λ (packet : PesUnit). header_length packet.bytes < length packet.bytes) packets → taken true packets ≡ packets
+all-taken [] fits = refl
+all-taken (packet ∷ []) fits =
+    ap (λ (dropped : Bool). cond dropped [] (packet ∷ []))
+    (not-dropped packet.bytes (All-head (λ (packet : PesUnit). header_length packet.bytes < length packet.bytes) packet [] fits))
+all-taken (packet ∷ next ∷ more) fits =
+    ap (λ (rest : List PesUnit). packet ∷ rest) (all-taken (next ∷ more) (All-tail (λ (packet : PesUnit). header_length packet.bytes < length packet.bytes) packet (next ∷ more) fits))
+
+-- ---- lists
+
+weaker : (xs : List ℕ) → Adjacent ◌<◌ xs → Adjacent ◌≤◌ xs
+weaker [] rise = tt
+weaker (x ∷ []) rise = tt
+weaker (x ∷ y ∷ xs) rise = (omega (arith, rise.0), weaker (y ∷ xs) rise.1)
+
+rise-weakly : (xs : List ℕ) → IsStrictlyIncreasing xs → IsNonDecreasing xs
+rise-weakly xs rise = adjacent_steady xs (weaker xs (rising_adjacent xs rise))
+
+zip-same : (xs : List ℕ) (ys : List ℕ) → xs ≡ ys → AllZip (λ x y. x ≤ y) xs ys
+zip-same xs ys same = subst (λ (zs : List ℕ). AllZip (λ x y. x ≤ y) xs zs) same (own xs)
+  where
+    own : (xs : List ℕ) → AllZip (λ x y. x ≤ y) xs xs
+    own [] = tt
+    own (x ∷ xs) = (omega arith, own xs)
+
+zip-dues : (units : List CodedUnit) (choice : List ℕ) → length (zip units choice) ≡ length units → chosen_dues (zip units choice) ≡ map (λ (unit : CodedUnit). unit.due) units
+zip-dues [] choice many = refl
+zip-dues (u ∷ us) [] many = absurd (omega (arith, many))
+zip-dues (u ∷ us) (k ∷ choice) many = ap (λ (xs : List ℕ). u.due ∷ xs) (zip-dues us choice (omega (arith, many)))
+
+none-there : (xs : List ℕ) → length xs ≡ 0 → xs ≡ []
+none-there [] is = refl
+none-there (x ∷ xs) is = absurd (omega (arith, is))
+
+-- ---- the whole
+
+module _ (laws : PacketLaws) (file : List ℕ) (list : List PacketRecord) (pid program : ℕ) (row : ProgramRow) (choice : List ℕ) (pes : List PesUnit) (times : List ℕ) (headers : Headers)
+    (is : CarriesVideo file list pid row choice pes times) (beside : AllZip (IsPayloadOf headers) (payloads_on pid list) (video_queue program row choice).packets)
+    (data_behind : All (λ (p : Payload). header_bytes p < length p.bytes) (payloads_on pid list)) where
+  abbrev on_pid : List CarriedPayload
+  on_pid = carried (pid_pieces file pid 0 (piece_count file))
+
+  abbrev sent_bytes : List (List ℕ)
+  sent_bytes = map (λ (packet : PesUnit). packet.bytes) pes
+
+  payloads-are : map (λ (c : CarriedPayload). c.payload) on_pid ≡ payloads_on pid list
+  payloads-are =
+      ap (λ (n : ℕ). map (λ (c : CarriedPayload). c.payload) (carried (pid_pieces file pid 0 n))) (as-many file list is.read)
+      ∙ laws.carries file list pid 0 (length list) is.read is.counted (omega arith) (omega arith)
+      ∙ ap (λ (n : ℕ). payloads_on pid (take n list)) (let e : length list - 0 ≡ length list = omega arith in e) ∙ ap (payloads_on pid) (take-all list)
+    where
+      take-all : (xs : List PacketRecord) → take (length xs) xs ≡ xs
+      take-all [] = refl
+      take-all (x ∷ xs) = ap (λ (ys : List PacketRecord). x ∷ ys) (take-all xs)
+
+  leaves-each : All LeavesData on_pid
+  leaves-each = of-map (λ (p : Payload). header_bytes p < length p.bytes) (λ (c : CarriedPayload). c.payload) on_pid (payloads_on pid list) payloads-are data_behind
+
+  bytes-are : sent_bytes ≡ map (λ (packet : Gathered). packet.bytes) (gathered on_pid)
+  bytes-are =
+      ap (map (λ (packet : PesUnit). packet.bytes)) is.pes_are
+      ∙ map-map (λ (packet : PesUnit). packet.bytes) (λ (packet : Gathered). record { at = packet.at; bytes = packet.bytes }) (gathered on_pid)
+
+  fits : All (λ (bytes : List ℕ). header_length bytes < length bytes) sent_bytes
+  fits = subst (All (λ (bytes : List ℕ). header_length bytes < length bytes)) (sym bytes-are) (fits-gathered on_pid leaves-each)
+
+  pub taken-are : taken true pes ≡ pes
+  taken-are = all-taken pes (of-map (λ (bytes : List ℕ). header_length bytes < length bytes) (λ (packet : PesUnit). packet.bytes) pes sent_bytes refl fits)
+
+  -- the bytes of all payloads, with what comes before the first PES packet
+  all-parts : flat_map parts_of_payload (payloads_on pid list) ≡ replicate (length (front (payloads_on pid list))) Data ++ plain_parts sent_bytes
+  all-parts =
+      ap (flat_map parts_of_payload) (sym payloads-are) ∙ flat_map-map parts_of_payload (λ (c : CarriedPayload). c.payload) on_pid
+      ∙ parts-gathered on_pid leaves-each
+      ∙ ap₂ (λ (f : List ℕ) (packets : List (List ℕ)). replicate (length f) Data ++ plain_parts packets) (front-is on_pid ∙ ap front payloads-are) (sym bytes-are)
+
+  zipped : length (zip row.units choice) ≡ length row.units
+  zipped =
+      let sized = ap (length {A = ℕ}) is.sizes in
+      let dued = ap (length {A = ℕ}) is.dues in
+      omega (
+        arith,
+        sized,
+        dued,
+        is.many,
+        length-map (zip row.units choice) (λ (one : CodedUnit × ℕ). (version_at one.0 one.1).bytes),
+        length-map pes (λ (packet : PesUnit). length packet.bytes),
+        length-map row.units (λ (unit : CodedUnit). unit.due),
+      )
+
+  sizes-are : chosen_sizes (zip row.units choice) ≡ map (λ (bytes : List ℕ). length bytes) sent_bytes
+  sizes-are = is.sizes ∙ sym (map-map (λ (bytes : List ℕ). length bytes) (λ (packet : PesUnit). packet.bytes) pes)
+
+  sent-many : length sent_bytes ≡ length times
+  sent-many = length-map pes (λ (packet : PesUnit). packet.bytes) ∙ is.many
+
+  -- when each byte is wanted, PES headers too
+  wanted-are : wanted_with_headers (video_queue program row choice).packets ≡ spread (map (λ (bytes : List ℕ). length bytes) sent_bytes) times
+  wanted-are = video-wanted 0 (zip row.units choice) ∙ ap₂ spread sizes-are (zip-dues row.units choice zipped ∙ is.dues)
+
+  nothing-before : front (payloads_on pid list) ≡ []
+  nothing-before = none-there (front (payloads_on pid list))
+      (let all = ap (length {A = PacketPart}) all-parts in
+      let sum = length-append (replicate (length (front (payloads_on pid list))) Data) (plain_parts sent_bytes) in
+      let queued = queue-many headers (payloads_on pid list) (video_queue program row choice).packets beside in
+      let wanted = ap (length {A = ℕ}) wanted-are in
+      omega (arith, all, sum, queued, wanted, spread-many sent_bytes times fits sent-many, length-replicate (length (front (payloads_on pid list))) Data))
+
+  parts-are : flat_map parts_of_payload (payloads_on pid list) ≡ plain_parts sent_bytes
+  parts-are = all-parts ∙ ap (λ (f : List ℕ). replicate (length f) Data ++ plain_parts sent_bytes) nothing-before
+
+  -- what comes to its decoder
+  pub arrivals-same : (to : ℕ) → sum_by (λ (packet : PesUnit). length (pes_payload_of packet)) pes ≤ to
+      → arrivals_by (places_on file pid) (record { from = 0; to = to }) (taken true pes) ≡ arrivals_on pid list
+  arrivals-same to within =
+      let test : PacketRecord → Bool = λ (packet : PacketRecord). packet.pid == pid in
+      ap₂ (λ (places : List Place) (packets : List PesUnit). arrivals_by places (record { from = 0; to = to }) packets) (places-are laws file list is.read pid is.counted) taken-are
+      ∙ ap₂ (λ (n : ℕ) (parts : List PacketPart). brought_by_all (places_by (λ (packet : PacketRecord). packet.pid == pid) 0 list) (replicate n Overhead ++ parts))
+      (before-is pid 0 list ∙ ap (length {A = ℕ}) nothing-before) (whole-parts to 0 pes (omega (arith, within)) ∙ sym parts-are ∙ sym (payload-parts pid list) ∙ sym (append-nil _))
+      ∙ arrivals-are (λ (packet : PacketRecord). packet.pid == pid) 0 list []
+
+  -- what is removed from it
+  pub removals-allowed : (shown_at : ℕ) (kept_units : KeptUnits) → shown_at < 2576980377600 → All (λ (at : ℕ). at < 1288490188800) times
+      → AreOwnUnits shown_at kept_units.base kept_units.units pes times → IsAllowed (Video program row.vbv) headers (video_queue program row choice).packets (unit_removals shown_at kept_units)
+  removals-allowed shown_at kept_units below soon are =
+      let removals = removals-are shown_at kept_units.base kept_units.units pes times below soon are in
+      let whole : All (λ (bytes : List ℕ). header_length bytes ≤ length bytes) sent_bytes = λ k d within. (let low = fits k d within in omega (arith, low)) in
+      let payload-lengths : map (λ (bytes : List ℕ). length bytes - header_length bytes) sent_bytes ≡ payload_sizes pes =
+      map-map (λ (bytes : List ℕ). length bytes - header_length bytes) (λ (packet : PesUnit). packet.bytes) pes ∙ sizes-less pes in
+      let same : wanted_of_each (Video program row.vbv) headers (video_queue program row choice).packets ≡ removed (unit_removals shown_at kept_units) =
+      sym (queue-kept program row.vbv headers (payloads_on pid list) (video_queue program row choice).packets beside)
+      ∙ ap₂ (kept is_data) parts-are wanted-are ∙ packets-kept sent_bytes times whole sent-many ∙ ap (λ (counts : List ℕ). spread counts times) payload-lengths ∙ sym removals.0 in
+      record {
+        in_order = subst IsNonDecreasing (sym (removals.1 ∙ sym is.dues)) (rise-weakly (map (λ (unit : CodedUnit). unit.due) row.units) is.rise);
+        wanted = zip-same _ _ same;
+        gone = zip-same _ _ (sym same ∙ sym (video-gone program row.vbv headers 0 (zip row.units choice)));
+      }
+    where
+      sizes-less : (packets : List PesUnit) → map (λ (packet : PesUnit). length packet.bytes - header_length packet.bytes) packets ≡ payload_sizes packets
+      sizes-less [] = refl
+      sizes-less (packet ∷ more) = ap₂ (λ (x : ℕ) (xs : List ℕ). x ∷ xs) (sym (length-drop (header_length packet.bytes) packet.bytes)) (sizes-less more)
+
+  -- all of its bytes are kept
+  pub bytes-kept : (shown_at : ℕ) (kept_units : KeptUnits) → shown_at < 2576980377600 → All (λ (at : ℕ). at < 1288490188800) times
+      → AreOwnUnits shown_at kept_units.base kept_units.units pes times → bytes_of_units kept_units ≡ sum_by (λ (packet : PesUnit). length (pes_payload_of packet)) pes
+  bytes-kept shown_at kept_units below soon are = (removals-are shown_at kept_units.base kept_units.units pes times below soon are).2
+
+-- what an audit takes of it
+pub video-found : PacketLaws
+    → (file : List ℕ) (list : List PacketRecord) (slot pid program base : ℕ) (row : ProgramRow) (choice : List ℕ) (pes : List PesUnit) (times : List ℕ) (kept_units : KeptUnits)
+    (stream : AuditedStream) (found : Option Finding) → CarriesVideo file list pid row choice pes times → (is_clean : IsCleanOn slot pid (video_queue program row choice) list)
+    → All (λ (p : Payload). header_bytes p < length p.bytes) (payloads_on pid list) → first_sequence (joined pes) ≡ Some 0 → base < 2576980377600 → All (λ (at : ℕ). at < 1288490188800) times
+    → AreKeptOf base pes times row.vbv kept_units → IsVideoStream file base kept_units pid pes stream → FindsOn slot stream found → IsFullAtMost found
+video-found laws file list slot pid program base row choice pes times kept_units stream found is is_clean data_behind first below soon kept_are audited finds =
+    found-on slot stream
+    (λ fault has.
+    is_clean.clean (unit_removals base kept_units) fault
+    (removals-allowed laws file list pid program row choice pes times is_clean.headers is is_clean.payloads data_behind base kept_units below soon kept_are.units)
+    (subst (λ (arrivals : List Arrival). IsFault slot (VideoBuffers row.vbv) arrivals (unit_removals base kept_units) fault) arrivals
+    (subst (λ (vbv : ℕ). IsFault slot (VideoBuffers vbv) (arrivals_by (places_on file pid) (record { from = audited.from; to = audited.from + bytes_of_units kept_units }) (taken true pes))
+    (unit_removals base kept_units) fault)
+    kept_are.buffer (subst (λ (s : AuditedStream). IsFault slot s.kind s.arrivals s.removals fault) audited.stream_is has))))
+    found finds
+  where
+    from_zero : audited.from ≡ 0
+    from_zero = same_Some audited.from 0
+        (sym audited.sequence
+        ∙ ap (λ (packets : List PesUnit). first_sequence (joined packets)) (taken-are laws file list pid program row choice pes times is_clean.headers is is_clean.payloads data_behind)
+        ∙ first)
+
+    arrivals : arrivals_by (places_on file pid) (record { from = audited.from; to = audited.from + bytes_of_units kept_units }) (taken true pes) ≡ arrivals_on pid list
+    arrivals =
+        ap (λ (n : ℕ). arrivals_by (places_on file pid) (record { from = n; to = n + bytes_of_units kept_units }) (taken true pes)) from_zero
+        ∙ arrivals-same laws file list pid program row choice pes times is_clean.headers is is_clean.payloads data_behind (0 + bytes_of_units kept_units)
+        (let all = bytes-kept laws file list pid program row choice pes times is_clean.headers is is_clean.payloads data_behind base kept_units below soon kept_are.units in omega (arith, all))
