@@ -23,6 +23,7 @@ mod slice;
 mod step;
 mod tally;
 mod targets;
+mod version_room;
 mod version_state;
 
 pub use codes::Target;
@@ -37,4 +38,5 @@ pub use outline::{
 pub use picture::coarsen;
 pub use step::{Coarsened, coarsen_macroblock, requantise_macroblock};
 pub use tally::{Tally, VERSIONS_AT_ONCE};
+pub use version_room::VersionRoom;
 pub use version_state::VersionState;

@@ -14,6 +14,7 @@ use crate::head::Head;
 use crate::macroblock::{is_coded_without_motion, written_pattern};
 use crate::step::{coarsen_macroblock, code_in_force};
 use crate::tally::Tally;
+use crate::version_room::VersionRoom;
 use crate::version_state::VersionState;
 use syntax_types::{Kind, Macroblock, PicCoding, SeqState};
 
@@ -41,7 +42,7 @@ pub struct Outlined {
 
 /// Says what becomes of a macroblock that some bits spell, where its coefficients were counted in the version. The state
 /// goes on as with `coarsen_macroblock`. Only in the one case where a coefficient is kept, which takes as long as that,
-/// the macroblock is written, into one that is lent.
+/// the macroblock is written, into room that is lent.
 pub fn outline_macroblock(
     seq: &SeqState,
     coding: &PicCoding,
@@ -49,13 +50,13 @@ pub fn outline_macroblock(
     tally: Tally,
     state: &mut VersionState,
     from: &Macroblock,
-    to: &mut Macroblock,
+    to: &mut VersionRoom,
 ) -> Outlined
     requires weights { HasWeights seq.now }
     requires spelled { IsSpelledMacroblock coding.now from.now }
     requires room { state.old.skipped + from.now.skipped_before < u16.MAX }
     requires tally { IsTallyOf seq.now coding.now (unwrap_or from.now.code state.old.source_code) state.old.m from.now tally }
-    ensures outlined { IsOutlined seq.now coding.now inner from.now state.old state.new result to.new }
+    ensures outlined { IsOutlined seq.now coding.now inner from.now state.old state.new result to.new.macroblock }
     ensures few { result.bits ≤ 2 ^ 15 }
     ensures small { result.distortion ≤ 2 ^ 41 }
 {

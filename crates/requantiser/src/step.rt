@@ -11,6 +11,7 @@ use crate::codes::Codes;
 use crate::difference::{Side, difference_of_one, difference_of_two};
 use crate::kept_levels::KeptLevels;
 use crate::macroblock::{make_blocks, write_head};
+use crate::version_room::VersionRoom;
 use crate::version_state::VersionState;
 use quant_math::{LAST_CODE, WHOLE_RATIO, map_code};
 use syntax_types::{Macroblock, PicCoding, SeqState};
@@ -24,51 +25,64 @@ pub struct Coarsened {
     pub distortion: u64,
 }
 
-/// Writes what becomes of a macroblock that some bits spell into one that is lent, with its distortion; where it is skipped
-/// in the version, what was lent says nothing. An inner macroblock is neither the first nor the last one of its slice that
-/// isn't skipped. All skipped macroblocks of a row fit their number.
+/// Writes what becomes of a macroblock that some bits spell into room that is lent, with its distortion; where it is skipped
+/// in the version, the macroblock there says nothing. An inner macroblock is neither the first nor the last one of its slice
+/// that isn't skipped. All skipped macroblocks of a row fit their number.
 pub fn coarsen_macroblock(
     seq: &SeqState,
     coding: &PicCoding,
     inner: bool,
     state: &mut VersionState,
     from: &Macroblock,
-    to: &mut Macroblock,
+    to: &mut VersionRoom,
 ) -> Coarsened
     requires weights { HasWeights seq.now }
     requires spelled { IsSpelledMacroblock coding.now from.now }
     requires room { state.old.skipped + from.now.skipped_before < u16.MAX }
-    ensures at { IsCoarserAt seq.now coding.now state.old.m inner state.old.source_code state.old.version_code (Option.Some from.now) (made_of result.coded to.new) }
-    ensures behind { IsStateBehind from.now (made_of result.coded to.new) state.old state.new }
+    ensures at { IsCoarserAt seq.now coding.now state.old.m inner state.old.source_code state.old.version_code (Option.Some from.now) (made_of result.coded to.new.macroblock) }
+    ensures behind { IsStateBehind from.now (made_of result.coded to.new.macroblock) state.old state.new }
     ensures distortion { result.distortion ≡ difference_of (coefficient_of_macroblock seq.now coding.now state.new.source_code (Option.Some from.now))
-        (coefficient_of_macroblock seq.now coding.now state.new.version_code (made_of result.coded to.new)) }
+        (coefficient_of_macroblock seq.now coding.now state.new.version_code (made_of result.coded to.new.macroblock)) }
     ensures bound { result.distortion ≤ 2 ^ 41 }
 {
-    let mut levels = KeptLevels::new();
-    let coded = step(&mut levels, seq, coding, inner, state, from, to);
-    let distortion = distortion_of(seq, coding, *state, from, coded, to);
+    let coded = step(
+        &mut to.levels,
+        seq,
+        coding,
+        inner,
+        state,
+        from,
+        &mut to.macroblock,
+    );
+    let distortion = distortion_of(seq, coding, *state, from, coded, &to.macroblock);
     Coarsened { coded, distortion }
 }
 
 /// Writes what becomes of a macroblock as `coarsen_macroblock` does, and says whether it is coded in the version, and not
-/// skipped. Its distortion isn't added up, and what levels become is looked up in those that are lent, as far as it was
-/// asked for.
+/// skipped. Its distortion isn't added up.
 pub fn requantise_macroblock(
-    levels: &mut KeptLevels,
     seq: &SeqState,
     coding: &PicCoding,
     inner: bool,
     state: &mut VersionState,
     from: &Macroblock,
-    to: &mut Macroblock,
+    to: &mut VersionRoom,
 ) -> bool
     requires weights { HasWeights seq.now }
     requires spelled { IsSpelledMacroblock coding.now from.now }
     requires room { state.old.skipped + from.now.skipped_before < u16.MAX }
-    ensures at { IsCoarserAt seq.now coding.now state.old.m inner state.old.source_code state.old.version_code (Option.Some from.now) (made_of result to.new) }
-    ensures behind { IsStateBehind from.now (made_of result to.new) state.old state.new }
+    ensures at { IsCoarserAt seq.now coding.now state.old.m inner state.old.source_code state.old.version_code (Option.Some from.now) (made_of result to.new.macroblock) }
+    ensures behind { IsStateBehind from.now (made_of result to.new.macroblock) state.old state.new }
 {
-    step(levels, seq, coding, inner, state, from, to)
+    step(
+        &mut to.levels,
+        seq,
+        coding,
+        inner,
+        state,
+        from,
+        &mut to.macroblock,
+    )
 }
 
 /// The same of a macroblock of the right shape, by the walk.

@@ -10,6 +10,7 @@
 mod fault;
 mod kind_bits;
 pub mod laws;
+mod lent;
 mod limits;
 mod sizes;
 mod slice_count;

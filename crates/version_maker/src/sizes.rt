@@ -5,6 +5,7 @@ ghost use Rattle.picture_reader.specs.Picture.{IsRefusedAs};
 ghost use Rattle.version_maker.specs.SizedPicture.{IsSizedPicture};
 ghost use Rattle.version_maker.specs.Versions.{AreSizes};
 
+use crate::lent::Lent;
 use crate::limits::UNIT_BYTES_MOST;
 use crate::slice_read::{SliceRead, read_and_count};
 use crate::unit_sizes::{add_slice, all_sizes, no_sizes};
@@ -13,7 +14,7 @@ use arrayvec::ArrayVec;
 use picture_reader::{Headers, PictureFault, UnitCursor, UnitPart};
 use requantiser::Ladder;
 use std::alloc::Global;
-use syntax_types::{Macroblock, SeqState};
+use syntax_types::SeqState;
 use version_table::limits::VERSIONS_MOST;
 
 /// The headers of the picture of a unit, and how long all versions of the unit are.
@@ -64,8 +65,7 @@ pub fn size_picture(
         Ok(cursor) => cursor,
         Err(fault) => return Err(fault),
     };
-    let mut read = Macroblock::empty();
-    let mut made = Macroblock::empty();
+    let mut lent = Lent::new();
     let mut slice = SliceRead::new(&cursor.headers.coding);
     let mut sizes = no_sizes(coarser);
     'slices: loop {
@@ -90,8 +90,7 @@ pub fn size_picture(
                     &cursor.headers.coding,
                     coarser,
                     ladder,
-                    &mut read,
-                    &mut made,
+                    &mut lent,
                     &mut slice,
                 ) {
                     Ok(()) => {

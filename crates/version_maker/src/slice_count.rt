@@ -19,7 +19,7 @@ use crate::kind_bits::{CODE_BITS, KindBits};
 use crate::stayed_bits::StayedBits;
 use macroblock_writer::{increment_bits, macroblock_bits, motion_and_dc_bits, pattern_bits};
 use requantiser::{
-    Head, Outline, Tally, VERSIONS_AT_ONCE, VersionState, coded_head, is_emptied,
+    Head, Outline, Tally, VERSIONS_AT_ONCE, VersionRoom, VersionState, coded_head, is_emptied,
     outline_macroblock, stayed_head, stays,
 };
 use syntax_types::{Macroblock, PicCoding, SeqState, SliceInfo};
@@ -103,7 +103,7 @@ pub fn is_inner(is_first: bool, closed: bool) -> bool
     !is_first && !closed
 }
 
-/// Counts what becomes of one more macroblock in the first so many versions, through one that is lent.
+/// Counts what becomes of one more macroblock in the first so many versions, through room that is lent.
 pub fn count_macroblock(
     seq: &SeqState,
     coding: &PicCoding,
@@ -111,7 +111,7 @@ pub fn count_macroblock(
     from: &Macroblock,
     count: usize,
     tallies: &[Tally; VERSIONS_AT_ONCE],
-    lent: &mut Macroblock,
+    lent: &mut VersionRoom,
     counts: &mut [VersionCount; VERSIONS_AT_ONCE],
 )
     requires weights { HasWeights seq.now }
@@ -142,7 +142,7 @@ pub fn count_macroblock(
     }
 }
 
-/// Counts what becomes of one more macroblock in a version, through one that is lent. Its motion and its DC coefficients are
+/// Counts what becomes of one more macroblock in a version, through room that is lent. Its motion and its DC coefficients are
 /// the same in all versions, in so many bits, and so is its head where it stays as it is.
 #[inline]
 fn count_version(
@@ -154,7 +154,7 @@ fn count_version(
     kinds: &KindBits,
     stayed: &StayedBits,
     tally: &Tally,
-    lent: &mut Macroblock,
+    lent: &mut VersionRoom,
     count: &mut VersionCount,
 )
     requires weights { HasWeights seq.now }
@@ -188,7 +188,7 @@ fn count_changed(
     shared: u32,
     kinds: KindBits,
     tally: Tally,
-    lent: &mut Macroblock,
+    lent: &mut VersionRoom,
     count: &mut VersionCount,
 )
     requires weights { HasWeights seq.now }
@@ -219,7 +219,7 @@ fn count_emptied(
     shared: u32,
     kinds: KindBits,
     tally: Tally,
-    lent: &mut Macroblock,
+    lent: &mut VersionRoom,
     count: &mut VersionCount,
 )
     requires weights { HasWeights seq.now }
@@ -231,7 +231,7 @@ fn count_emptied(
     ensures { IsCountedMacroblock seq.now coding.now inner from.now count.old count.new }
 {
     let made = outline_macroblock(seq, coding, inner, tally, &mut count.state, from, lent);
-    let outline = outline_bits(coding, from, shared, kinds, made.outline, lent);
+    let outline = outline_bits(coding, from, shared, kinds, made.outline, &lent.macroblock);
     count.bits += u64::from(outline + made.bits);
     count.distortion += made.distortion;
 }

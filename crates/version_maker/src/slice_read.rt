@@ -15,13 +15,14 @@ ghost use Rattle.version_maker.specs.declared.slice_count.VersionCount.{VersionC
 ghost use Rattle.version_maker.specs.Private.Counts.{CanCountBehind, IsCountedMacroblock, IsStartCount};
 ghost use Rattle.version_maker.specs.Private.Read.{AreMacroblocksRead, IsSliceRead};
 
+use crate::lent::Lent;
 use crate::slice_count::{VersionCount, count_macroblock, info_bits, is_inner, start_counts};
 use bit_cursor::BitReader;
 use macroblock_reader::{SliceCursor, SliceFault, read_slice_head};
 use picture_grammar::grid::columns;
 use picture_reader::Span;
 use quant_math::WHOLE_RATIO;
-use requantiser::{Ladder, Tally, VERSIONS_AT_ONCE, tally_macroblock};
+use requantiser::{Ladder, Tally, VERSIONS_AT_ONCE, VersionRoom, tally_macroblock};
 use shelf_io::{Fault, SliceSource, Source};
 use std::alloc::Global;
 use syntax_types::{Macroblock, PicCoding, SeqState};
@@ -52,7 +53,7 @@ impl SliceRead {
 }
 
 /// Reads the slice at the front of these bytes, behind its start code, and counts it in the version at each ratio into one
-/// that is lent. Each of its macroblocks is read into one that is lent, and outlined in another one.
+/// that is lent. Each of its macroblocks is read into one that is lent, and outlined through room that is lent.
 pub fn read_and_count(
     alloc: Global,
     bytes: &[u8],
@@ -60,8 +61,7 @@ pub fn read_and_count(
     coding: &PicCoding,
     ratios: &[u16],
     ladder: &mut Ladder,
-    read: &mut Macroblock,
-    made: &mut Macroblock,
+    lent: &mut Lent,
     slice: &mut SliceRead,
 ) -> Result<(), SliceFault>
     requires coding { IsCoding coding.now }
@@ -83,8 +83,7 @@ pub fn read_and_count(
         ratios,
         head.code,
         ladder,
-        read,
-        made,
+        lent,
         &mut slice.counts,
     )?;
     slice.bits = reader.place();
@@ -102,8 +101,7 @@ fn count_macroblocks<S: Source>(
     ratios: &[u16],
     code: u8,
     ladder: &mut Ladder,
-    read: &mut Macroblock,
-    made: &mut Macroblock,
+    lent: &mut Lent,
     counts: &mut [VersionCount; VERSIONS_AT_ONCE],
 ) -> Result<Span, SliceFault>
     requires coding { IsCoding coding.now }
@@ -125,7 +123,7 @@ fn count_macroblocks<S: Source>(
     let mut tallies = [Tally::empty(); VERSIONS_AT_ONCE];
     let mut in_force = code;
     'macroblocks: loop {
-        let is_more = cursor.next(from, coding, read)?;
+        let is_more = cursor.next(from, coding, &mut lent.from)?;
         if !is_more {
             return Ok(span);
         }
@@ -137,13 +135,13 @@ fn count_macroblocks<S: Source>(
             inner,
             in_force,
             ratios,
-            read,
+            &lent.from,
             &mut tallies,
             ladder,
-            made,
+            &mut lent.made,
             counts,
         );
-        span = span.with(read.skipped_before);
+        span = span.with(lent.from.skipped_before);
     }
 }
 
@@ -158,7 +156,7 @@ fn count_next(
     from: &Macroblock,
     tallies: &mut [Tally; VERSIONS_AT_ONCE],
     ladder: &mut Ladder,
-    made: &mut Macroblock,
+    made: &mut VersionRoom,
     counts: &mut [VersionCount; VERSIONS_AT_ONCE],
 ) -> u8
     requires weights { HasWeights seq.now }

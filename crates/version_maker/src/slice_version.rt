@@ -21,6 +21,7 @@ ghost use Rattle.requantiser.specs.Levels.{HasWeights};
 ghost use Rattle.requantiser.specs.VersionState.{IsSpelledMacroblock, made_of};
 ghost use Rattle.version_maker.specs.Private.Making.{AreMade, IsMadeBehind, IsMadeSlice, IsWrittenStep};
 
+use crate::lent::Lent;
 use crate::slice_count::is_inner;
 use bit_cursor::{BitReader, BitWriter};
 use list_types::OutOfMemory;
@@ -29,29 +30,11 @@ use macroblock_writer::{write_macroblock, write_slice_head};
 use picture_grammar::grid::columns;
 use picture_reader::Span;
 use picture_writer::write_start_code;
-use requantiser::{KeptLevels, VersionState, requantise_macroblock};
+use requantiser::{VersionState, requantise_macroblock};
 use shelf_io::{Fault, Sink, SliceSource, Source};
 use std::alloc::Global;
 use stream_constants::start_codes::FIRST_SLICE;
 use syntax_types::{Macroblock, PicCoding, SeqState, SliceInfo};
-
-/// What is lent: a macroblock of the source, what becomes of it, and what levels become.
-#[derive(Drop)]
-pub struct Lent {
-    pub from: Macroblock,
-    pub made: Macroblock,
-    pub levels: KeptLevels,
-}
-
-impl Lent {
-    pub fn new() -> Lent {
-        Lent {
-            from: Macroblock::empty(),
-            made: Macroblock::empty(),
-            levels: KeptLevels::new(),
-        }
-    }
-}
 
 /// A slice that was read, and whose version was written.
 #[derive(Clone, Copy)]
@@ -181,16 +164,8 @@ fn make_macroblock<K: Sink>(
     requires goes { is_stopped to.old ≡ false }
     ensures { OnOk result (IsWrittenStep K.written seq.now coding.now inner lent.old.from state.old state.new to.old to.new) }
 {
-    let coded = requantise_macroblock(
-        &mut lent.levels,
-        seq,
-        coding,
-        inner,
-        state,
-        &lent.from,
-        &mut lent.made,
-    );
-    write_where_coded(coding, coded, &lent.made, to)
+    let coded = requantise_macroblock(seq, coding, inner, state, &lent.from, &mut lent.made);
+    write_where_coded(coding, coded, &lent.made.macroblock, to)
 }
 
 /// Writes a macroblock where it is coded, and nothing where it is skipped.

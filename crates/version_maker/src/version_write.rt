@@ -10,9 +10,10 @@ ghost use Rattle.picture_writer.specs.WrittenPicture.{written_end};
 ghost use Rattle.version_maker.specs.Private.Bytes.{AreCoarserBytesOf};
 ghost use Rattle.version_maker.specs.Private.Making.{IsMadeVersion};
 
+use crate::lent::Lent;
 use crate::limits::UNIT_BYTES_MOST;
 use crate::sizes::bytes_from;
-use crate::slice_version::{Lent, in_memory, make_slice};
+use crate::slice_version::{in_memory, make_slice};
 use bit_cursor::BitWriter;
 use list_types::{ListOf, OutOfMemory};
 use picture_heads::without_delay;

@@ -11,7 +11,7 @@ use bit_cursor::BitReader;
 use macroblock_reader::{read_macroblock_into, read_slice_head};
 use picture_grammar::limits::{MACROBLOCK_SIZE, SLICE_CLOSING_BITS};
 use quant_math::LAST_CODE;
-use requantiser::{VersionState, coarsen_macroblock};
+use requantiser::{VersionRoom, VersionState, coarsen_macroblock};
 use shelf_io::SliceSource;
 use std::alloc::{AllocError, Global};
 use syntax_types::{Macroblock, PicCoding, SeqState};
@@ -27,11 +27,11 @@ pub struct Tally {
     pub distortions: [u64; RATIOS_MOST],
 }
 
-/// The macroblocks that are lent, one to read into and one to write into.
+/// What is lent: a macroblock to read into, and room to write into.
 #[derive(Drop)]
 struct Lent {
     from: Macroblock,
-    to: Macroblock,
+    to: VersionRoom,
 }
 
 /// Reads and coarsens slices until none stands next.
@@ -45,7 +45,7 @@ pub fn coarsen_slices(alloc: Global, bytes: &[u8], ratios: &ArrayVec<u16, RATIOS
     };
     let mut lent = Lent {
         from: Macroblock::empty(),
-        to: Macroblock::empty(),
+        to: VersionRoom::new(),
     };
     let mut rest = bytes;
     for _ in 0..u64::MAX {
@@ -161,7 +161,7 @@ fn coarsen(
     inner: bool,
     states: &mut [VersionState],
     from: &Macroblock,
-    to: &mut Macroblock,
+    to: &mut VersionRoom,
     tally: &mut Tally,
 )
     requires weights { HasWeights seq.now }
@@ -185,7 +185,7 @@ fn coarsen_by(
     inner: bool,
     state: &mut VersionState,
     from: &Macroblock,
-    to: &mut Macroblock,
+    to: &mut VersionRoom,
 ) -> u64
     requires weights { HasWeights seq.now }
     requires spelled { IsSpelledMacroblock coding.now from.now }

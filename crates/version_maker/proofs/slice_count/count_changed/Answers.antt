@@ -11,7 +11,7 @@ returns c =
     let coding = c.args.coding.now in
     let from = c.args.from.now in
     let head = c.coded_head-head.result in
-    let outlined = c.coded_head-head.ensures c.args.seq.now coding c.args.inner c.args.lent.now c.requires.spelled c.requires.can.tallied in
+    let outlined = c.coded_head-head.ensures c.args.seq.now coding c.args.inner c.args.lent.now.macroblock c.requires.spelled c.requires.can.tallied in
     let step : Step = record { from = from; made = outlined.made; behind = c.coded_head-head.new.state; distortion = c.args.tally.distortion } in
     record {
       step = step;

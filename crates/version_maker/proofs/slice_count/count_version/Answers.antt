@@ -13,7 +13,7 @@ returns-then-stays c =
     let from = c.args.from.now in
     let head : Head = c.stayed_head-head.result in
     let state = c.args.count.now.state in
-    let outlined = c.stayed_head-head.ensures.outlined c.args.seq.now coding c.args.inner state c.args.lent.now (sym c.stays.ensures ∙ c.if-stays.true)
+    let outlined = c.stayed_head-head.ensures.outlined c.args.seq.now coding c.args.inner state c.args.lent.now.macroblock (sym c.stays.ensures ∙ c.if-stays.true)
     c.requires.spelled c.requires.can.tallied in
     let step : Step = record { from = from; made = outlined.made; behind = state; distortion = c.args.tally.now.distortion } in
     let pattern : ℕ = head.pattern in

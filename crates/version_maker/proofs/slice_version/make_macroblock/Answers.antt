@@ -11,7 +11,7 @@ pub write_where_coded-requires-clause-spelled : goal.write_where_coded-requires-
 write_where_coded-requires-clause-spelled g c = λ coded.
     let state = c.args.state.now in
     let from = c.args.lent.now.from in
-    let to = c.requantise_macroblock-coded.new.to in
+    let to = c.requantise_macroblock-coded.new.to.macroblock in
     made-spelled c.args.seq.now c.args.coding.now state.m c.args.inner state.source_code state.version_code from to c.requires.spelled
     (subst (λ b. IsCoarserAt c.args.seq.now c.args.coding.now state.m c.args.inner state.source_code state.version_code (Some from) (made_of b to)) coded
     c.requantise_macroblock-coded.ensures.at)
@@ -25,10 +25,10 @@ returns g c =
     let behind = made.new.state in
     let step : Step = record {
       from = from;
-      made = made_of made.result made.new.to;
+      made = made_of made.result made.new.to.macroblock;
       behind = behind;
       distortion = difference_of (coefficient_of_macroblock seq coding behind.source_code (Some from))
-          (coefficient_of_macroblock seq coding behind.version_code (made_of made.result made.new.to));
+          (coefficient_of_macroblock seq coding behind.version_code (made_of made.result made.new.to.macroblock));
     } in
     on_ok_weaker c.write_where_coded.result
     (λ put. record {
