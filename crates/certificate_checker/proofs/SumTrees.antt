@@ -3,8 +3,8 @@ use Rattle.std.proofs.Common.{◌≡◌, ℕ, zero, suc, ◌+◌, ◌-◌, ◌*�
 use Rattle.std.proofs.lemmas.Bool.{cases_eq, eq-eqb, ne_eqb}
 use Rattle.std.proofs.lemmas.List.{get_or-set_other, get_or-set_same, length-set}
 use Rattle.certificate_checker.specs.declared.sums.PlaceSums.{PlaceSums}
-use Rattle.certificate_checker.specs.Private.PlaceSums.{AreSums, IsRising, number_at, odd_at, odd_before}
-use Rattle.sum_tree.specs.Nodes.{IsPair, sum_from}
+use Rattle.certificate_checker.specs.Private.PlaceSums.{AreSums, IsPair, IsRising, number_at, odd_at, odd_before}
+use Rattle.sum_tree.specs.Nodes.{sum_from}
 
 -- ---- sums of numbers next to each other
 pub sum_front : (f : ℕ → ℕ) (a n : ℕ) → sum_from f a (suc n) ≡ f a + sum_from f (a + 1) n

@@ -1,11 +1,13 @@
 -- Trees that have the amounts of steps.
-use Rattle.std.proofs.Common.{◌≡◌, ℕ, ◌+◌, ◌^◌, ◌<◌, ◌≤◌, List, [], length, take, get_or, cond, nat_lt, nat_le, sum_by, refl, sym, ap, subst, ◌∙◌, inl, inr, arith}
+use Rattle.std.proofs.Common.{◌≡◌, ℕ, ◌+◌, ◌^◌, ◌<◌, ◌≤◌, List, [], length, take, get_or, cond, nat_lt, nat_le, sum_by, refl, sym, ap, ◌∙◌, inl, inr, arith}
 use Rattle.std.specs.List.{Contains}
 use Rattle.std.proofs.lemmas.Bool.{cases_lt, lt-ltb, le-ltb, le-leb, lt-leb}
 use Rattle.std.proofs.lemmas.List.{get_or_default}
 use Rattle.std.proofs.lemmas.List.Sums.{sum_by_more}
 use Rattle.sum_tree.specs.declared.tree.SumTree.{SumTree}
-use Rattle.sum_tree.specs.Nodes.{IsSumTree, first_sum}
+use Rattle.sum_tree.specs.Nodes.{grown, IsSumTree, sum_from}
+use Rattle.sum_tree.proofs.Sums.{sum-grown}
+use Rattle.sum_tree.proofs.Zeros.{zeros-sum}
 use Rattle.cost_sweep.specs.declared.step.CostStep.{CostStep}
 use Rattle.cost_sweep.specs.Places.{IsPlaceBehind}
 use Rattle.cost_sweep.specs.Private.Before.{IsPlaceBefore}
@@ -33,36 +35,41 @@ module _ (prices : List ℕ) (from place price k amount : ℕ) (before : IsPlace
 
 -- an empty tree
 pub holds-none : (prices : List ℕ) (amount : CostStep → ℕ) (tree : SumTree) (height : ℕ) → tree.height ≡ height → height ≤ 40 → length prices < 2 ^ height
-    → IsSumTree tree.height 0 tree.first tree.nodes.items → ((k : ℕ) → first_sum tree.first tree.nodes.items k ≡ 0) → Holds prices amount [] tree
-holds-none prices amount tree height same few room is none =
+    → IsSumTree tree.height (λ place. 0) tree.nodes.items → Holds prices amount [] tree
+holds-none prices amount tree height same few room is =
     let power : 2 ^ tree.height ≡ 2 ^ height = ap (λ n. 2 ^ n) same in
     record {
       height = omega arith;
-      room = omega (arith, is.places, power);
+      room = omega (arith, power);
+      number = λ place. 0;
       is_tree = is;
-      sums = λ price k at. none k;
+      total = zeros-sum (2 ^ tree.height);
+      sums = λ price k at. zeros-sum k;
     }
 
 -- one step more
 pub holds-more : (prices : List ℕ) (amount : CostStep → ℕ) (steps : List CostStep) (i : ℕ) (d : CostStep) (old new : SumTree) (place n : ℕ) → i < length steps
     → n ≡ amount (get_or steps i d) → IsPlaceBefore prices (get_or steps i d).from place → Contains prices (get_or steps i d).from → Holds prices amount (take i steps) old
-    → new.height ≡ old.height → new.first ≡ old.first
-    → ((total : ℕ) → IsSumTree old.height total old.first old.nodes.items → IsSumTree new.height (total + n) new.first new.nodes.items)
-    → ((k : ℕ) → k ≤ old.first → first_sum new.first new.nodes.items k ≡ first_sum old.first old.nodes.items k + cond (nat_lt place k) n 0)
+    → new.height ≡ old.height
+    → ((number : ℕ → ℕ) → IsSumTree old.height number old.nodes.items → IsSumTree new.height (grown number place n) new.nodes.items)
     → Holds prices amount (take (i + 1) steps) new
-holds-more prices amount steps i d old new place n within own before has holds height first tree sums =
+holds-more prices amount steps i d old new place n within own before has holds height tree =
     let step = get_or steps i d in
+    let number = holds.number in
+    let power : 2 ^ new.height ≡ 2 ^ old.height = ap (λ m. 2 ^ m) height in
     let total : sum_by amount (take (i + 1) steps) ≡ sum_by amount (take i steps) + n = sum_by_more amount steps i d within ∙ ap (λ m. sum_by amount (take i steps) + m) (sym own) in
     record {
       height = omega (arith, holds.height);
-      room = omega (arith, holds.room);
-      is_tree = subst (λ m. IsSumTree new.height m new.first new.nodes.items) (sym total) (tree (sum_by amount (take i steps)) holds.is_tree);
+      room = omega (arith, power, holds.room);
+      number = grown number place n;
+      is_tree = tree number holds.is_tree;
+      total = (let all : cond (nat_lt place (2 ^ new.height)) n 0 ≡ n = rw (lt-ltb place (2 ^ new.height) (omega (arith, power, holds.room, before.within))) refl in
+          omega (arith, sum-grown number place n (2 ^ new.height), all, ap (sum_from number 0) power, holds.total, total));
       sums = λ price k at.
-          (let grown : first_sum new.first new.nodes.items k ≡ first_sum old.first old.nodes.items k + cond (nat_lt place k) n 0 = sums k (omega (arith, holds.room, at.within)) in
-          let here : cond (nat_lt place k) n 0 ≡ cond (nat_le step.from price) n 0 = counts-before prices step.from place price k n before at has in
+          (let here : cond (nat_lt place k) n 0 ≡ cond (nat_le step.from price) n 0 = counts-before prices step.from place price k n before at has in
           let counts : cond (nat_le step.from price) n 0 ≡ counted amount price step = ap (λ m. cond (nat_le step.from price) m 0) own in
-          let so_far : first_sum old.first old.nodes.items k ≡ sum_by (counted amount price) (take i steps) = holds.sums price k at in
+          let so_far : sum_from number 0 k ≡ sum_by (counted amount price) (take i steps) = holds.sums price k at in
           let more : sum_by (counted amount price) (take (i + 1) steps) ≡ sum_by (counted amount price) (take i steps) + counted amount price step =
           sum_by_more (counted amount price) steps i d within in
-          omega arith);
+          omega (arith, sum-grown number place n k));
     }

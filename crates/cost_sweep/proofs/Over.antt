@@ -1,8 +1,9 @@
 -- The least price at which the packets fewer are more than so many.
-use Rattle.std.proofs.Common.{◌≡◌, ℕ, zero, suc, ◌+◌, ◌-◌, ◌<◌, ◌≤◌, List, length, get_or, Option, Some, None, MatchOption, subst, inl, inr, arith}
+use Rattle.std.proofs.Common.{◌≡◌, ℕ, zero, suc, ◌+◌, ◌^◌, ◌<◌, ◌≤◌, List, length, get_or, Option, Some, None, MatchOption, subst, inl, inr, arith}
 use Rattle.std.specs.List.Sorted.{IsNonDecreasing}
 use Rattle.std.proofs.lemmas.Bool.{cases_lt}
-use Rattle.sum_tree.specs.Nodes.{first_sum, sum_from}
+use Rattle.sum_tree.specs.Nodes.{sum_from}
+use Rattle.sum_tree.proofs.Sums.{sum-le}
 use Rattle.cost_sweep.specs.declared.sweep.CostSweep.{CostSweep}
 use Rattle.cost_sweep.specs.Places.{IsPlaceBehind}
 use Rattle.cost_sweep.specs.Sweep.{fewer_at, IsFirstOver, IsSweep}
@@ -46,52 +47,34 @@ place-of prices price rise =
     let found = place-among prices price (length prices) rise (omega arith) in
     (found.0, record { within = found.1.within; most = found.1.most; more = found.1.more })
 
--- ---- sums of more numbers are no less
-sums-rise : (nodes : List ℕ) (first k more : ℕ) → first_sum first nodes k ≤ first_sum first nodes (k + more)
-unfolding first_sum
-sums-rise nodes first k zero =
-    let same : k ≡ k + 0 = omega arith in
-    subst (λ n. first_sum first nodes k ≤ first_sum first nodes n) same (omega arith)
-sums-rise nodes first k (suc more) =
-    let next : suc (k + more) ≡ k + suc more = omega arith in
-    let before : first_sum first nodes k ≤ first_sum first nodes (k + more) = sums-rise nodes first k more in
-    let last : sum_from (λ j. get_or nodes j 0) first (k + more) ≤ sum_from (λ j. get_or nodes j 0) first (suc (k + more)) = omega arith in
-    let whole : first_sum first nodes k ≤ first_sum first nodes (suc (k + more)) = omega (arith, before, last) in
-    subst (λ n. first_sum first nodes k ≤ first_sum first nodes n) next whole
-
-sums-le : (nodes : List ℕ) (first k n : ℕ) → k ≤ n → first_sum first nodes k ≤ first_sum first nodes n
-sums-le nodes first k n le =
-    let whole : k + (n - k) ≡ n = omega arith in
-    subst (λ m. first_sum first nodes k ≤ first_sum first nodes m) whole (sums-rise nodes first k (n - k))
-
 -- ---- the price at which the first numbers are too many
-module _ (sweep : CostSweep) (is : IsSweep sweep) (most place : ℕ) (within : first_sum sweep.fewer.first sweep.fewer.nodes.items place ≤ most)
-    (more : place + 1 < sweep.fewer.first → most < first_sum sweep.fewer.first sweep.fewer.nodes.items (place + 1)) where
+module _ (sweep : CostSweep) (is : IsSweep sweep) (most place : ℕ) (within : sum_from is.fewer.number 0 place ≤ most)
+    (more : place + 1 < 2 ^ sweep.fewer.height → most < sum_from is.fewer.number 0 (place + 1)) where
   abbrev prices : List ℕ
-  prices = sweep.prices.items
+  prices = sweep.prices.now
 
   upto : (price at : ℕ) → IsPlaceBehind prices price at → at ≤ place → fewer_at sweep price ≤ most
   upto price at behind low =
       let sum = is.fewer.sums price at behind in
-      let le = sums-le sweep.fewer.nodes.items sweep.fewer.first at place low in
+      let le = sum-le is.fewer.number at place low in
       omega (arith, sum, le, within)
 
   never-over : length prices ≤ place → (price : ℕ) → fewer_at sweep price ≤ most
   never-over all price =
-      let at = place-of prices price is.prices in
+      let at = place-of prices price is.sorted.rise in
       upto price at.0 at.1 (omega (arith, at.1.within))
 
   first-over : (price : ℕ) → place < length prices → price ≡ get_or prices place 0 → IsFirstOver sweep most price
   first-over price low own = record {
-    over = (let at = place-of prices price is.prices in
+    over = (let at = place-of prices price is.sorted.rise in
         let behind : place < at.0 = elim (cases_lt place at.0) as (λ _. place < at.0) [
           | inl less ↦ less
           | inr upto ↦ absurd (let above : price < get_or prices place 0 = at.1.more place upto low in omega arith)
         ] in
         let sum = is.fewer.sums price at.0 at.1 in
-        let le = sums-le sweep.fewer.nodes.items sweep.fewer.first (place + 1) at.0 (omega arith) in
+        let le = sum-le is.fewer.number (place + 1) at.0 (omega arith) in
         omega (arith, sum, le, more (omega (arith, is.fewer.room))));
-    before = λ other less. (let at = place-of prices other is.prices in
+    before = λ other less. (let at = place-of prices other is.sorted.rise in
         elim (cases_lt place at.0) as (λ _. fewer_at sweep other ≤ most) [
           | inl behind ↦ absurd (let below : get_or prices place 0 ≤ other = at.1.most place behind in omega arith)
           | inr low_at ↦ upto other at.0 at.1 low_at

@@ -1,43 +1,11 @@
 -- What steps come to where packets that are due by a time have a price.
-use Rattle.std.proofs.Common.{
-  ◌≡◌,
-  ℕ,
-  ◌+◌,
-  ◌*◌,
-  ◌^◌,
-  ◌<◌,
-  ◌≤◌,
-  ◌-◌,
-  List,
-  [],
-  ◌∷◌,
-  length,
-  take,
-  drop,
-  get_or,
-  cond,
-  nat_le,
-  sum_by,
-  All,
-  Bool,
-  true,
-  false,
-  refl,
-  sym,
-  ap,
-  subst,
-  ◌∙◌,
-  inl,
-  inr,
-  mul-le-mul,
-  arith,
-}
-use Rattle.std.proofs.lemmas.Bool.{cases_Bool, le-leb, lt-leb}
+use Rattle.std.proofs.Common.{◌≡◌, ℕ, ◌+◌, ◌*◌, ◌<◌, ◌≤◌, ◌-◌, List, [], ◌∷◌, length, take, drop, get_or, cond, nat_le, sum_by, All, Bool, true, false, refl, sym, ap, subst, arith}
+use Rattle.std.proofs.lemmas.Bool.{le-leb, lt-leb}
 use Rattle.std.proofs.lemmas.List.{get_or-take, get_or-drop, length-drop, length-take-le}
 use Rattle.std.proofs.lemmas.List.Elements.{All-head, All-tail}
 use Rattle.std.proofs.lemmas.List.Sums.{sum_by-cons, sum_by-take-drop, sum_by-take-le, sum_by-le-sum_by}
 use Rattle.cost_sweep.specs.declared.step.CostStep.{CostStep}
-use Rattle.cost_sweep.specs.Steps.{AreSmall, paid_by, spared_by}
+use Rattle.cost_sweep.specs.Steps.{paid_by, spared_by}
 use Rattle.cost_sweep.specs.Sweep.{counted}
 
 abbrev pub rise_of : CostStep → ℕ

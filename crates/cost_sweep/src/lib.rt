@@ -7,6 +7,7 @@ mod sorted;
 mod step;
 mod sweep;
 
+pub use sorted::SortedSteps;
 pub use step::CostStep;
 pub use sweep::{CostSweep, Costs};
 

@@ -1,10 +1,10 @@
 ghost use Rattle.std.specs.Prelude.{◌≡◌, ℕ, ◌+◌, ◌<◌, ◌≤◌, ◌^◌, length, sum_by, cond, nat_le, take, IfOk, IsTrue, ◌↔◌, MatchOption, slice_index_or};
-ghost use Rattle.std.specs.List.Sorted.{IsPermutation};
 ghost use Rattle.cost_sweep.specs.declared.step.CostStep.{CostStep as Step};
+ghost use Rattle.cost_sweep.specs.Sorted.{AreSorted};
 ghost use Rattle.cost_sweep.specs.Steps.{AreSmall, paid_by, spared_by};
 ghost use Rattle.cost_sweep.specs.Sweep.{HasReached, IsFirstOver, IsSweep, WentOn, counted, fewer_at};
 
-use crate::sorted::{height_for, place_before, place_behind, price_at, prices_of};
+use crate::sorted::{SortedSteps, height_for, place_before, place_behind, price_at};
 use crate::step::CostStep;
 use list_types::OutOfMemory;
 use std::alloc::Global;
@@ -12,13 +12,13 @@ use sum_tree::SumTree;
 
 /// The least costs of some units, at one due time after the other.
 #[derive(Drop)]
-pub struct CostSweep {
+pub struct CostSweep<'a> {
     /// All steps, in the order of their due times.
-    steps: Vec<CostStep>,
-    /// How many of them are due.
-    place: usize,
+    steps: &'a [CostStep],
     /// The prices from which on steps count, in rising order.
-    prices: Vec<u64>,
+    prices: &'a [u64],
+    /// How many of the steps are due.
+    place: usize,
     /// What the due steps add, at the places of their prices.
     rises: SumTree,
     /// The packets fewer of the due steps, at the places of their prices.
@@ -38,29 +38,27 @@ pub struct Costs {
     pub spared: u128,
 }
 
-impl CostSweep {
+impl<'a> CostSweep<'a> {
     /// Before the first due time of some steps. Fails only for want of memory.
-    pub fn new(alloc: Global, steps: Vec<CostStep>) -> Result<CostSweep, OutOfMemory>
-        requires { AreSmall steps.items }
+    pub fn new(alloc: Global, sorted: &'a SortedSteps) -> Result<CostSweep<'a>, OutOfMemory>
+        requires { AreSorted sorted.now.steps.items sorted.now.prices.items }
         ensures sweep { IfOk result IsSweep }
         ensures start { IfOk result (λ sweep. sweep.place ≡ 0) }
-        ensures steps { IfOk result (λ sweep. IsPermutation steps.items sweep.steps.items) }
+        ensures steps { IfOk result (λ sweep. sweep.steps.now ≡ sorted.now.steps.items) }
     {
-        let mut steps = steps;
-        steps.sort_by_key(|step| step.due)?;
-        let prices = prices_of(alloc, steps.as_slice())?;
+        let steps = sorted.steps.as_slice();
+        let prices = sorted.prices.as_slice();
         let height = height_for(prices.len());
         let rises = SumTree::new(alloc, height)?;
         let fewer = SumTree::new(alloc, height)?;
-        let rest = rise_at_0(steps.as_slice());
         Ok(CostSweep {
             steps,
-            place: 0,
             prices,
+            place: 0,
             rises,
             fewer,
             packets: 0,
-            rest,
+            rest: rise_at_0(steps),
         })
     }
 
@@ -68,14 +66,14 @@ impl CostSweep {
     pub fn next_due(&mut self) -> Option<u64>
         requires { IsSweep self.old }
         ensures sweep { IsSweep self.new }
-        ensures steps { self.new.steps.items ≡ self.old.steps.items }
-        ensures next { MatchOption result (length self.old.steps.items ≤ self.old.place) (λ due. WentOn self.old.place due self.new) }
-        ensures none { MatchOption result (self.new.place ≡ self.old.place) (λ due. self.old.place < length self.old.steps.items) }
+        ensures steps { self.new.steps.now ≡ self.old.steps.now }
+        ensures next { MatchOption result (length self.old.steps.now ≤ self.old.place) (λ due. WentOn self.old.place due self.new) }
+        ensures none { MatchOption result (self.new.place ≡ self.old.place) (λ due. self.old.place < length self.old.steps.now) }
     {
         if self.place >= self.steps.len() {
             return None;
         }
-        let due = due_at(self.steps.as_slice(), self.place);
+        let due = due_at(self.steps, self.place);
         self.go_to(due);
         Some(due)
     }
@@ -83,9 +81,9 @@ impl CostSweep {
     /// Goes on to a time: behind all steps that are due by it. None of those behind which the sweep stands is due later.
     pub fn go_to(&mut self, due: u64)
         requires sweep { IsSweep self.old }
-        requires order { (k : ℕ) (d : Step) → k < self.old.place → (slice_index_or self.old.steps.items k d).due ≤ due }
+        requires order { (k : ℕ) (d : Step) → k < self.old.place → (slice_index_or self.old.steps.now k d).due ≤ due }
         ensures sweep { IsSweep self.new }
-        ensures steps { self.new.steps.items ≡ self.old.steps.items }
+        ensures steps { self.new.steps.now ≡ self.old.steps.now }
         ensures reached { HasReached due self.new }
     {
         while self.has_due(due) {
@@ -97,12 +95,12 @@ impl CostSweep {
     pub fn costs(&self, price: u64) -> Costs
         requires sweep { IsSweep self.now }
         requires price { price ≤ 2 ^ 46 }
-        ensures paid { (due : ℕ) → HasReached due self.now → result.paid ≡ sum_by (paid_by due price) self.now.steps.items }
-        ensures spared { (due : ℕ) → HasReached due self.now → result.spared ≡ sum_by (spared_by due price) self.now.steps.items }
+        ensures paid { (due : ℕ) → HasReached due self.now → result.paid ≡ sum_by (paid_by due price) self.now.steps.now }
+        ensures spared { (due : ℕ) → HasReached due self.now → result.spared ≡ sum_by (spared_by due price) self.now.steps.now }
         ensures paid_small { result.paid < 2 ^ 110 }
         ensures spared_small { result.spared < 2 ^ 110 }
     {
-        let place = place_behind(self.prices.as_slice(), price);
+        let place = place_behind(self.prices, price);
         let rises = self.rises.sum_of_first(place);
         let fewer = self.fewer.sum_of_first(place);
         Costs {
@@ -114,7 +112,7 @@ impl CostSweep {
     /// The packets that the due steps pay at each price.
     pub fn packets(&self) -> u64
         requires { IsSweep self.now }
-        ensures { result ≡ sum_by (λ step. step.packets) (take self.now.place self.now.steps.items) }
+        ensures { result ≡ sum_by (λ step. step.packets) (take self.now.place self.now.steps.now) }
     {
         self.packets
     }
@@ -125,27 +123,26 @@ impl CostSweep {
         ensures { MatchOption result ((price : ℕ) → fewer_at self.now price ≤ fewer) (IsFirstOver self.now fewer) }
     {
         let place = self.fewer.count_within(fewer);
-        price_at(self.prices.as_slice(), place)
+        price_at(self.prices, place)
     }
 
     /// Whether the next step is due by a time.
     fn has_due(&self, due: u64) -> bool
-        ensures { IsTrue result ↔ ((self.now.place < length self.now.steps.items) × ((d : Step) → (slice_index_or self.now.steps.items self.now.place d).due ≤ due)) }
+        ensures { IsTrue result ↔ ((self.now.place < length self.now.steps.now) × ((d : Step) → (slice_index_or self.now.steps.now self.now.place d).due ≤ due)) }
     {
-        let steps = self.steps.as_slice();
-        self.place < steps.len() && due_at(steps, self.place) <= due
+        self.place < self.steps.len() && due_at(self.steps, self.place) <= due
     }
 
     /// Takes the next step.
     fn take(&mut self)
         requires sweep { IsSweep self.old }
-        requires more { self.old.place < length self.old.steps.items }
+        requires more { self.old.place < length self.old.steps.now }
         ensures sweep { IsSweep self.new }
         ensures place { self.new.place ≡ self.old.place + 1 }
-        ensures steps { self.new.steps.items ≡ self.old.steps.items }
+        ensures steps { self.new.steps.now ≡ self.old.steps.now }
     {
-        let step = step_at(self.steps.as_slice(), self.place);
-        let place = place_before(self.prices.as_slice(), step.from);
+        let step = step_at(self.steps, self.place);
+        let place = place_before(self.prices, step.from);
         self.rises.add(place, u128::from(step.rise));
         self.fewer.add(place, u128::from(step.fewer));
         self.packets += u64::from(step.packets);

@@ -1,4 +1,4 @@
-use crate::{CostStep, CostSweep};
+use crate::{CostStep, CostSweep, SortedSteps};
 use std::test::Fail;
 
 #[test]
@@ -25,7 +25,8 @@ fn a_sweep_charges_what_is_due(rt: HostRuntime) -> Result<(), Fail> {
         fewer: 2,
     };
     let steps = vec![in rt.alloc(); late, early, lower]?;
-    let mut sweep = CostSweep::new(rt.alloc(), steps)?;
+    let sorted = SortedSteps::new(rt.alloc(), steps)?;
+    let mut sweep = CostSweep::new(rt.alloc(), &sorted)?;
     assert_eq!(rt; sweep.next_due(), Some(4));
     let below = sweep.costs(2);
     assert_eq!(rt; below.paid, 10);

@@ -107,12 +107,12 @@ module _ (table : Table) (fixed : List (Option ℕ)) (start : List Window) (dues
 
 -- ---- all due times
 pub best-on : (table : Table) (fixed : List (Option ℕ)) (start : List Window) (place due : ℕ) (sweep : CostSweep) (best : Option Addition) → IsSweep sweep → WentOn place due sweep
-    → IsBestAddition table fixed start (times_of (take place sweep.steps.items) ++ due ∷ []) best → IsBestAddition table fixed start (times_of (take sweep.place sweep.steps.items)) best
+    → IsBestAddition table fixed start (times_of (take place sweep.steps.now) ++ due ∷ []) best → IsBestAddition table fixed start (times_of (take sweep.place sweep.steps.now)) best
 best-on table fixed start place due sweep best is went found = record {
   may = found.may;
   valued = found.valued;
   each = λ time lambda has free limit.
-      found.each time lambda (front-back sweep.steps.items place sweep.place due went.more is.within went.here time has) free limit;
+      found.each time lambda (front-back sweep.steps.now place sweep.place due went.more is.within went.here time has) free limit;
 }
 
 pub beat-all : (table : Table) (fixed : List (Option ℕ)) (start : List Window) (steps : List CostStep) (place : ℕ) (best : Option Addition) (found : List Window) → length steps ≤ place

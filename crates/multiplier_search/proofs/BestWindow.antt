@@ -5,6 +5,7 @@ use Rattle.std.proofs.lemmas.Bool.{cases_lt}
 use Rattle.std.proofs.lemmas.Int.{ints}
 use Rattle.std.proofs.lemmas.List.{take_all}
 use Rattle.std.proofs.lemmas.List.Elements.{Contains-append_cases}
+use Rattle.version_table.specs.declared.table.Unit.{Unit as CodedUnit}
 use Rattle.version_table.specs.declared.table.Table.{Table}
 use Rattle.version_table.specs.Table.{units_of}
 use Rattle.dual_bounds.specs.declared.constants.TheConstants.{LAMBDA_MOST}
@@ -57,8 +58,8 @@ outdoes-first table fixed ticks place steps start valued first = record {
 }
 
 pub outdoes-on : (table : Table) (fixed : List (Option ℕ)) (ticks place due : ℕ) (sweep : CostSweep) (start best better : ValuedWindow) → IsSweep sweep → WentOn place due sweep
-    → Outdoes table fixed ticks (times_of (take place sweep.steps.items)) start best → Outdoes table fixed ticks (due ∷ []) best better
-    → Outdoes table fixed ticks (times_of (take sweep.place sweep.steps.items)) start better
+    → Outdoes table fixed ticks (times_of (take place sweep.steps.now)) start best → Outdoes table fixed ticks (due ∷ []) best better
+    → Outdoes table fixed ticks (times_of (take sweep.place sweep.steps.now)) start better
 outdoes-on table fixed ticks place due sweep start best better is went first second =
     let one = first.least in
     let two = second.least in
@@ -66,8 +67,8 @@ outdoes-on table fixed ticks place due sweep start best better is went first sec
       valued = second.valued;
       least = omega (arith, ints);
       each = λ from time lambda has some begins limit.
-          elim (Contains-append_cases (times_of (take place sweep.steps.items)) (due ∷ []) time
-          (front-back sweep.steps.items place sweep.place due went.more is.within went.here time has)) as (λ _. value_at table fixed from time lambda ≤ℤ better.value) [
+          elim (Contains-append_cases (times_of (take place sweep.steps.now)) (due ∷ []) time
+          (front-back sweep.steps.now place sweep.place due went.more is.within went.here time has)) as (λ _. value_at table fixed from time lambda ≤ℤ better.value) [
             | inl earlier ↦ (let le = first.each from time lambda earlier some begins limit in omega (arith, ints))
             | inr here ↦ second.each from time lambda here some begins limit
           ];
@@ -137,6 +138,12 @@ beat-each table fixed dues first start late short long is alone of_late of_short
         let le = of_long.each tried.from tried.due tried.lambda tries.due some whole tries.lambda in
         let four : long.value ≡ value_of_windows table fixed (long.window ∷ []) = of_long.valued in
         omega (arith, ints)
+
+-- no due time, where no multiplier is the best
+pub beat-none : (table : Table) (fixed : List (Option ℕ)) (single : List Multiplier) → length single ≡ 0 → IsBestSingle table fixed single
+    → BeatEachTried table fixed (dues_of (units_of table)) []
+beat-none table fixed [] none is tried tries = absurd (no_time tried.due (subst (λ (x : List CodedUnit). Contains (dues_of x) tried.due) is tries.due))
+beat-none table fixed (first ∷ more) none is tried tries = absurd (omega (arith, none))
 
 -- the best multiplier where there is one
 pub first-of : (table : Table) (fixed : List (Option ℕ)) (single : List Multiplier) (d : Multiplier) → 0 < length single → IsBestSingle table fixed single

@@ -92,9 +92,9 @@ module _ (windows : List Window) (from due before lambda : ℕ) (next : before +
       (λ x. least_cost (beside windows due lambda) x.0 x.1) (λ x. least_cost (beside windows due 0) x.0 x.1) (zip units fixed) (λ x. unit-between x.0 x.1)
 
 -- ---- the value between two sweeps
-pub are-free : (table : Table) (fixed : List (Option ℕ)) (windows : List Window) (due : ℕ) (last : CostSweep) (free : Costs) → AreStepsOf table fixed windows last.steps.items → HasReached due last
-    → ((time : ℕ) → HasReached time last → free.paid ≡ sum_by (paid_by time 0) last.steps.items)
-    → ((time : ℕ) → HasReached time last → free.spared ≡ sum_by (spared_by time 0) last.steps.items) → AreFree table fixed windows due free
+pub are-free : (table : Table) (fixed : List (Option ℕ)) (windows : List Window) (due : ℕ) (last : CostSweep) (free : Costs) → AreStepsOf table fixed windows last.steps.now → HasReached due last
+    → ((time : ℕ) → HasReached time last → free.paid ≡ sum_by (paid_by time 0) last.steps.now)
+    → ((time : ℕ) → HasReached time last → free.spared ≡ sum_by (spared_by time 0) last.steps.now) → AreFree table fixed windows due free
 are-free table fixed windows due last free steps reached paid spared =
     let costs = steps.costs due 0 (omega arith) in
     let one = paid due reached in
@@ -103,10 +103,10 @@ are-free table fixed windows due last free steps reached paid spared =
 
 pub value-between : (table : Table) (fixed : List (Option ℕ)) (windows : List Window) (from due lambda : ℕ) (last before : CostSweep) (free costs early : Costs) (capacity : ℤ) → lambda ≤ LAMBDA_MOST
     → AreAtWindow table fixed windows from due last before → AreFree table fixed windows due free
-    → ((time : ℕ) → HasReached time last → costs.paid ≡ sum_by (paid_by time lambda) last.steps.items)
-    → ((time : ℕ) → HasReached time last → costs.spared ≡ sum_by (spared_by time lambda) last.steps.items)
-    → ((time : ℕ) → HasReached time before → early.paid ≡ sum_by (paid_by time lambda) before.steps.items)
-    → ((time : ℕ) → HasReached time before → early.spared ≡ sum_by (spared_by time lambda) before.steps.items)
+    → ((time : ℕ) → HasReached time last → costs.paid ≡ sum_by (paid_by time lambda) last.steps.now)
+    → ((time : ℕ) → HasReached time last → costs.spared ≡ sum_by (spared_by time lambda) last.steps.now)
+    → ((time : ℕ) → HasReached time before → early.paid ≡ sum_by (paid_by time lambda) before.steps.now)
+    → ((time : ℕ) → HasReached time before → early.spared ≡ sum_by (spared_by time lambda) before.steps.now)
     → capacity ≡ room table from due
     → (pos ((costs.paid + free.paid) + early.spared) -ℤ pos ((costs.spared + free.spared) + early.paid)) -ℤ (pos lambda *ℤ capacity) ≡ value_beside table fixed windows from due lambda +ℤ worth table windows
 unfolding value_of_windows

@@ -74,6 +74,9 @@ pub best-alone : (table : Table) (fixed : List (Option ℕ)) (dues more : List �
     → IsBestValued table fixed (dues ++ more) (Some b)
 best-alone table fixed dues more b none is = subst (λ (x : List ℕ). IsBestValued table fixed (x ++ more) (Some b)) (sym none) is
 
+pub none-valued : (table : Table) (fixed : List (Option ℕ)) (steps : List CostStep) (place : ℕ) → place ≡ 0 → IsBestValued table fixed (times_of (take place steps)) None
+none-valued table fixed steps place first = ap (λ n. times_of (take n steps)) first
+
 -- ---- due times in another order
 pub best-moved : (table : Table) (fixed : List (Option ℕ)) (dues moved : List ℕ) (best : Multiplier) → ((time : ℕ) → Contains dues time → Contains moved time)
     → ((time : ℕ) → Contains moved time → Contains dues time) → IsFirstBest table fixed dues best → IsFirstBest table fixed moved best
@@ -123,11 +126,11 @@ module _ (steps : List CostStep) (place place' due : ℕ) (more : place < place'
       ]
 
 pub best-on : (table : Table) (fixed : List (Option ℕ)) (place due : ℕ) (sweep : CostSweep) (best : Valued) → IsSweep sweep → WentOn place due sweep
-    → IsBestValued table fixed (times_of (take place sweep.steps.items) ++ due ∷ []) (Some best) → IsBestValued table fixed (times_of (take sweep.place sweep.steps.items)) (Some best)
+    → IsBestValued table fixed (times_of (take place sweep.steps.now) ++ due ∷ []) (Some best) → IsBestValued table fixed (times_of (take sweep.place sweep.steps.now)) (Some best)
 best-on table fixed place due sweep best is went (first, valued) =
-    let there = front-there sweep.steps.items place sweep.place due went.more is.within went.here in
-    let back = front-back sweep.steps.items place sweep.place due went.more is.within went.here in
-    (best-moved table fixed (times_of (take place sweep.steps.items) ++ due ∷ []) (times_of (take sweep.place sweep.steps.items)) best.multiplier there back first, valued)
+    let there = front-there sweep.steps.now place sweep.place due went.more is.within went.here in
+    let back = front-back sweep.steps.now place sweep.place due went.more is.within went.here in
+    (best-moved table fixed (times_of (take place sweep.steps.now) ++ due ∷ []) (times_of (take sweep.place sweep.steps.now)) best.multiplier there back first, valued)
 
 -- ---- all due times
 no_units : (units : List CodedUnit) → ((time : ℕ) → Contains (dues_of units) time → ⊥) → units ≡ []

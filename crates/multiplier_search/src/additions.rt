@@ -14,7 +14,7 @@ ghost use Rattle.multiplier_search.specs.Single.{dues_of};
 ghost use Rattle.multiplier_search.specs.Turns.{BeatAdditions};
 ghost use Rattle.multiplier_search.specs.Windows.{AreSearched};
 
-use crate::all_steps::sweep_of;
+use crate::all_steps::sorted_steps;
 use crate::at_due::{swept_lambda, swept_value};
 use crate::changes::of_greater_value;
 use crate::lists::{inserted, place_of};
@@ -51,7 +51,8 @@ pub fn best_addition(
     ensures value { IfOk result (λ found. value_of_windows table.now fixed.now start.now ≤ℤ value_of_windows table.now fixed.now found.items) }
     ensures additions { IfOk result (λ found. BeatAdditions table.now fixed.now (dues_of (units_of table.now)) start.now found.items) }
 {
-    let mut sweep = sweep_of(alloc, table, fixed, start)?;
+    let steps = sorted_steps(alloc, table, fixed, start)?;
+    let mut sweep = CostSweep::new(alloc, &steps)?;
     let mut best = None;
     'dues: loop {
         match sweep.next_due() {
@@ -64,14 +65,14 @@ pub fn best_addition(
 /// The best addition so far, or the best one at the last due time of a sweep, where no window ends at it.
 fn or_added_at(
     table: &Table,
-    sweep: &CostSweep,
+    sweep: &CostSweep<'_>,
     start: &[Window],
     due: u64,
     so_far: Option<Addition>,
 ) -> Option<Addition>
     requires valid { IsValidTable table.now }
     requires sweep { IsSweep sweep.now }
-    ensures { (fixed : List (Option ℕ)) (dues : List ℕ) → AreStepsOf table.now fixed start.now sweep.now.steps.items → HasReached due sweep.now
+    ensures { (fixed : List (Option ℕ)) (dues : List ℕ) → AreStepsOf table.now fixed start.now sweep.now.steps.now → HasReached due sweep.now
         → IsBestAddition table.now fixed start.now dues so_far → IsBestAddition table.now fixed start.now (dues ++ due ∷ []) result }
 {
     if end_at(start, due) {
@@ -94,14 +95,14 @@ fn end_at(windows: &[Window], time: u64) -> bool
 }
 
 /// The best addition at the last due time of a sweep.
-fn added_at(table: &Table, sweep: &CostSweep, due: u64) -> Addition
+fn added_at(table: &Table, sweep: &CostSweep<'_>, due: u64) -> Addition
     requires valid { IsValidTable table.now }
     requires sweep { IsSweep sweep.now }
     ensures due { result.due ≡ due }
     ensures lambda { result.lambda ≤ LAMBDA_MOST }
-    ensures value { (fixed : List (Option ℕ)) (windows : List Window) → AreStepsOf table.now fixed windows sweep.now.steps.items → HasReached due sweep.now
+    ensures value { (fixed : List (Option ℕ)) (windows : List Window) → AreStepsOf table.now fixed windows sweep.now.steps.now → HasReached due sweep.now
         → IsValuedBeside table.now fixed windows result }
-    ensures best { (fixed : List (Option ℕ)) (windows : List Window) (lambda : ℕ) → AreStepsOf table.now fixed windows sweep.now.steps.items → HasReached due sweep.now
+    ensures best { (fixed : List (Option ℕ)) (windows : List Window) (lambda : ℕ) → AreStepsOf table.now fixed windows sweep.now.steps.now → HasReached due sweep.now
         → lambda ≤ LAMBDA_MOST → value_beside table.now fixed windows 0 due lambda ≤ℤ value_beside table.now fixed windows 0 due result.lambda }
 {
     let capacity = window_capacity(table, 0, due);

@@ -1,33 +1,32 @@
-ghost use Rattle.std.specs.Prelude.{◌≡◌, All, IfOk, OnOk};
+ghost use Rattle.std.specs.Prelude.{All, IfOk, OnOk};
 ghost use Rattle.std.specs.List.{AllZip};
 ghost use Rattle.version_table.specs.Table.{IsValidTable, IsValidUnit};
 ghost use Rattle.dual_bounds.specs.Fixed.{FixesVersions, NamesVersion};
-ghost use Rattle.multiplier_search.specs.Private.UnitSteps.{AddSteps, AddUnit, AreStepsOf, IsSweepOf, LeaveRoom};
+ghost use Rattle.multiplier_search.specs.Private.UnitSteps.{AddSteps, AddUnit, AreSortedOf, AreStepsOf, LeaveRoom};
 
 use cost_steps::add_steps_above;
-use cost_sweep::{CostStep, CostSweep};
+use cost_sweep::{CostStep, SortedSteps};
 use dual_bounds::{Fixed, Window, price};
 use list_types::OutOfMemory;
 use std::alloc::Global;
 use version_table::{Table, Unit};
 
-/// A sweep over the steps of all units' least costs beside some windows, before the first due time. Fails only for want of
+/// The steps of all units' least costs beside some windows, in order, for all sweeps of a search. Fails only for want of
 /// memory.
-pub fn sweep_of(
+pub fn sorted_steps(
     alloc: Global,
     table: &Table,
     fixed: &Fixed,
     windows: &[Window],
-) -> Result<CostSweep, OutOfMemory>
+) -> Result<SortedSteps, OutOfMemory>
     requires valid { IsValidTable table.now }
     requires fixed { FixesVersions table.now fixed.now }
     requires room { LeaveRoom windows.now }
-    ensures sweep { IfOk result (IsSweepOf table.now fixed.now windows.now) }
-    ensures start { IfOk result (λ sweep. sweep.place ≡ 0) }
+    ensures { IfOk result (AreSortedOf table.now fixed.now windows.now) }
 {
     let steps = steps_of(alloc, table, fixed, windows)?;
-    let sweep = CostSweep::new(alloc, steps)?;
-    Ok(sweep)
+    let sorted = SortedSteps::new(alloc, steps)?;
+    Ok(sorted)
 }
 
 /// The steps of all units' least costs beside some windows. Fails only for want of memory.

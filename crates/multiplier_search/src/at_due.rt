@@ -14,12 +14,12 @@ use dual_bounds::constants::LAMBDA_MOST;
 
 /// The least lambda with the greatest value at the last due time of a sweep, beside the windows that it stands on: values rise up to it and no more, since each
 /// rise is at most the one before.
-pub fn swept_lambda(sweep: &CostSweep, capacity: i64) -> u64
+pub fn swept_lambda(sweep: &CostSweep<'_>, capacity: i64) -> u64
     requires { IsSweep sweep.now }
     ensures most { result ≤ LAMBDA_MOST }
-    ensures rises { (table : TableOfUnits) (fixed : List (Option ℕ)) (windows : List Window) (due : ℕ) → AreStepsOf table fixed windows sweep.now.steps.items
+    ensures rises { (table : TableOfUnits) (fixed : List (Option ℕ)) (windows : List Window) (due : ℕ) → AreStepsOf table fixed windows sweep.now.steps.now
         → HasReached due sweep.now → capacity ≡ room table 0 due → RisesTo (value_beside table fixed windows 0 due) result }
-    ensures ends { (table : TableOfUnits) (fixed : List (Option ℕ)) (windows : List Window) (due : ℕ) → AreStepsOf table fixed windows sweep.now.steps.items
+    ensures ends { (table : TableOfUnits) (fixed : List (Option ℕ)) (windows : List Window) (due : ℕ) → AreStepsOf table fixed windows sweep.now.steps.now
         → HasReached due sweep.now → capacity ≡ room table 0 due → EndsRise (value_beside table fixed windows 0 due) result }
 {
     let mut low = 0;
@@ -41,7 +41,7 @@ pub fn swept_lambda(sweep: &CostSweep, capacity: i64) -> u64
 }
 
 /// Near the lambda with the greatest value at the last due time of a sweep: before the first price at which no more packets are due than there is room for.
-fn near_peak(sweep: &CostSweep, capacity: i64) -> u64
+fn near_peak(sweep: &CostSweep<'_>, capacity: i64) -> u64
     requires { IsSweep sweep.now }
 {
     let over = i128::from(sweep.packets()) - i128::from(capacity);
@@ -56,10 +56,10 @@ fn near_peak(sweep: &CostSweep, capacity: i64) -> u64
 
 /// The value of a lambda at the last due time of a sweep, where the room up to it is this, and what the windows that the sweep
 /// stands on are worth.
-pub fn swept_value(sweep: &CostSweep, capacity: i64, lambda: u64) -> i128
+pub fn swept_value(sweep: &CostSweep<'_>, capacity: i64, lambda: u64) -> i128
     requires sweep { IsSweep sweep.now }
     requires lambda { lambda ≤ LAMBDA_MOST }
-    ensures { (table : TableOfUnits) (fixed : List (Option ℕ)) (windows : List Window) (due : ℕ) → AreStepsOf table fixed windows sweep.now.steps.items
+    ensures { (table : TableOfUnits) (fixed : List (Option ℕ)) (windows : List Window) (due : ℕ) → AreStepsOf table fixed windows sweep.now.steps.now
         → HasReached due sweep.now → capacity ≡ room table 0 due → result ≡ value_beside table fixed windows 0 due lambda +ℤ worth table windows }
 {
     let costs = sweep.costs(lambda);
@@ -68,7 +68,12 @@ pub fn swept_value(sweep: &CostSweep, capacity: i64, lambda: u64) -> i128
 
 /// The least lambda with which the window between two sweeps has the greatest value: the last due time of one is its end, and
 /// that of the other the tick before its beginning. Given are what the units cost where no packet has a price, and its room.
-pub fn between_lambda(last: &CostSweep, before: &CostSweep, free: Costs, capacity: i64) -> u64
+pub fn between_lambda(
+    last: &CostSweep<'_>,
+    before: &CostSweep<'_>,
+    free: Costs,
+    capacity: i64,
+) -> u64
     requires last { IsSweep last.now }
     requires before { IsSweep before.now }
     requires paid { free.paid < 2 ^ 110 }
@@ -101,8 +106,8 @@ pub fn between_lambda(last: &CostSweep, before: &CostSweep, free: Costs, capacit
 /// 0 on to its end, less what they cost under one to the tick before it, and what they cost where no packet has a price. With it is
 /// what the windows that the sweeps stand on are worth.
 pub fn between_value(
-    last: &CostSweep,
-    before: &CostSweep,
+    last: &CostSweep<'_>,
+    before: &CostSweep<'_>,
     free: Costs,
     capacity: i64,
     lambda: u64,

@@ -2,14 +2,15 @@ ghost use Rattle.std.specs.Prelude.{◌≡◌, ◌++◌, ◌≤◌, List, Option
 ghost use Rattle.version_table.specs.declared.table.Table.{Table as TableOfUnits};
 ghost use Rattle.version_table.specs.Table.{IsValidTable};
 ghost use Rattle.dual_bounds.specs.Fixed.{FixesVersions};
+ghost use Rattle.cost_sweep.specs.Sorted.{AreSorted};
 ghost use Rattle.cost_sweep.specs.Sweep.{HasReached, IsSweep};
 ghost use Rattle.multiplier_search.specs.Private.Lambda.{GoesFirst};
 ghost use Rattle.multiplier_search.specs.Private.UnitSteps.{AreStepsOf, IsBestValued, IsBetterValued};
 ghost use Rattle.multiplier_search.specs.Single.{IsBestSingle};
 
-use crate::all_steps::sweep_of;
+use crate::all_steps::sorted_steps;
 use crate::at_due::{swept_lambda, swept_value};
-use cost_sweep::CostSweep;
+use cost_sweep::{CostSweep, SortedSteps};
 use dual_bounds::{Fixed, Multiplier, Multipliers, window_capacity};
 use list_types::OutOfMemory;
 use std::alloc::Global;
@@ -29,7 +30,21 @@ pub fn best_single(alloc: Global, table: &Table, fixed: &Fixed) -> Result<Multip
     requires fixed { FixesVersions table.now fixed.now }
     ensures { IfOk result (λ found. IsBestSingle table.now fixed.now found.items) }
 {
-    let mut sweep = sweep_of(alloc, table, fixed, &[])?;
+    let steps = sorted_steps(alloc, table, fixed, &[])?;
+    best_over(alloc, table, &steps)
+}
+
+/// The same, over the steps of all units. Fails only for want of memory.
+pub fn best_over(
+    alloc: Global,
+    table: &Table,
+    steps: &SortedSteps,
+) -> Result<Multipliers, OutOfMemory>
+    requires valid { IsValidTable table.now }
+    requires sorted { AreSorted steps.now.steps.items steps.now.prices.items }
+    ensures { IfOk result (λ found. (fixed : List (Option ℕ)) → AreStepsOf table.now fixed [] steps.now.steps.items → IsBestSingle table.now fixed found.items) }
+{
+    let mut sweep = CostSweep::new(alloc, steps)?;
     let mut best = None;
     'dues: loop {
         match sweep.next_due() {
@@ -88,10 +103,10 @@ fn goes_before(a: Multiplier, b: Multiplier) -> bool
 }
 
 /// The first best multiplier at the last due time of a sweep, and its value.
-fn best_at(table: &Table, sweep: &CostSweep, due: u64) -> Valued
+fn best_at(table: &Table, sweep: &CostSweep<'_>, due: u64) -> Valued
     requires valid { IsValidTable table.now }
     requires sweep { IsSweep sweep.now }
-    ensures { (fixed : List (Option ℕ)) → AreStepsOf table.now fixed [] sweep.now.steps.items → HasReached due sweep.now
+    ensures { (fixed : List (Option ℕ)) → AreStepsOf table.now fixed [] sweep.now.steps.now → HasReached due sweep.now
         → IsBestValued table.now fixed (due ∷ []) (Some result) }
 {
     let capacity = window_capacity(table, 0, due);

@@ -3,6 +3,7 @@ ghost use Rattle.version_table.specs.declared.table.Table.{Table as TableOfUnits
 ghost use Rattle.version_table.specs.Table.{IsValidTable, units_of};
 ghost use Rattle.dual_bounds.specs.declared.constants.TheConstants.{LAMBDA_MOST};
 ghost use Rattle.dual_bounds.specs.Fixed.{FixesVersions};
+ghost use Rattle.cost_sweep.specs.Sorted.{AreSorted};
 ghost use Rattle.cost_sweep.specs.Sweep.{HasReached, IsSweep};
 ghost use Rattle.multiplier_search.specs.Private.Lambda.{value_at};
 ghost use Rattle.multiplier_search.specs.Private.Lengths.{HasItsValue, IsBehindBy, Outdoes};
@@ -10,12 +11,12 @@ ghost use Rattle.multiplier_search.specs.Private.UnitSteps.{AreAtWindow, AreStep
 ghost use Rattle.multiplier_search.specs.Single.{dues_of, value_alone};
 ghost use Rattle.multiplier_search.specs.Windows.{AreSearched, BeatEachTried, IsSound};
 
-use crate::all_steps::sweep_of;
+use crate::all_steps::sorted_steps;
 use crate::at_due::{between_lambda, between_value};
 use crate::constants::{LONG_WINDOW_TICKS, SHORT_WINDOW_TICKS};
 use crate::lambda::value_at;
-use crate::single::best_single;
-use cost_sweep::CostSweep;
+use crate::single::best_over;
+use cost_sweep::{CostSweep, SortedSteps};
 use dual_bounds::{Fixed, Multiplier, Window, Windows, window_capacity};
 use list_types::OutOfMemory;
 use std::alloc::Global;
@@ -37,14 +38,15 @@ pub fn best_window(alloc: Global, table: &Table, fixed: &Fixed) -> Result<Window
     ensures searched { IfOk result (λ found. AreSearched found.items) }
     ensures best { IfOk result (λ found. BeatEachTried table.now fixed.now (dues_of (units_of table.now)) found.items) }
 {
-    let single = best_single(alloc, table, fixed)?;
+    let steps = sorted_steps(alloc, table, fixed, &[])?;
+    let single = best_over(alloc, table, &steps)?;
     if single.len() == 0 {
         return Ok(Windows::new());
     }
     let start = from_start(table, fixed, single.as_slice()[0]);
-    let late = best_of_length(alloc, table, fixed, 0, start)?;
-    let short = best_of_length(alloc, table, fixed, SHORT_WINDOW_TICKS, late)?;
-    let long = best_of_length(alloc, table, fixed, LONG_WINDOW_TICKS, short)?;
+    let late = best_of_length(alloc, table, &steps, 0, start)?;
+    let short = best_of_length(alloc, table, &steps, SHORT_WINDOW_TICKS, late)?;
+    let long = best_of_length(alloc, table, &steps, LONG_WINDOW_TICKS, short)?;
     Ok(only(long.window))
 }
 
@@ -78,23 +80,23 @@ fn from_start(table: &Table, fixed: &Fixed, multiplier: Multiplier) -> ValuedWin
 }
 
 /// The window of greatest value among one and all that begin so many ticks before a unit's due time, at which they end, and
-/// behind time 0. Fails only for want of memory.
+/// behind time 0. Given are the steps of all units. Fails only for want of memory.
 fn best_of_length(
     alloc: Global,
     table: &Table,
-    fixed: &Fixed,
+    steps: &SortedSteps,
     ticks: u64,
     start: ValuedWindow,
 ) -> Result<ValuedWindow, OutOfMemory>
     requires valid { IsValidTable table.now }
-    requires fixed { FixesVersions table.now fixed.now }
+    requires sorted { AreSorted steps.now.steps.items steps.now.prices.items }
     requires sound { IsSound start.window }
-    requires valued { HasItsValue table.now fixed.now start }
     ensures sound { IfOk result (λ best. IsSound best.window) }
-    ensures best { IfOk result (Outdoes table.now fixed.now ticks (dues_of (units_of table.now)) start) }
+    ensures best { IfOk result (λ best. (fixed : List (Option ℕ)) → AreStepsOf table.now fixed [] steps.now.steps.items → HasItsValue table.now fixed start
+        → Outdoes table.now fixed ticks (dues_of (units_of table.now)) start best) }
 {
-    let mut last = sweep_of(alloc, table, fixed, &[])?;
-    let mut before = sweep_of(alloc, table, fixed, &[])?;
+    let mut last = CostSweep::new(alloc, steps)?;
+    let mut before = CostSweep::new(alloc, steps)?;
     let mut best = start;
     'dues: loop {
         match last.next_due() {
@@ -108,8 +110,8 @@ fn best_of_length(
 /// time 0. The other sweep goes on to the tick before it.
 fn or_at_due(
     table: &Table,
-    last: &CostSweep,
-    before: &mut CostSweep,
+    last: &CostSweep<'_>,
+    before: &mut CostSweep<'_>,
     ticks: u64,
     due: u64,
     so_far: ValuedWindow,
@@ -120,10 +122,10 @@ fn or_at_due(
     requires behind { IsBehindBy ticks due before.old }
     requires sound { IsSound so_far.window }
     ensures before { IsSweep before.new }
-    ensures steps { before.new.steps.items ≡ before.old.steps.items }
+    ensures steps { before.new.steps.now ≡ before.old.steps.now }
     ensures behind { IsBehindBy ticks due before.new }
     ensures sound { IsSound result.window }
-    ensures best { (fixed : List (Option ℕ)) → AreStepsOf table.now fixed [] last.now.steps.items → AreStepsOf table.now fixed [] before.old.steps.items
+    ensures best { (fixed : List (Option ℕ)) → AreStepsOf table.now fixed [] last.now.steps.now → AreStepsOf table.now fixed [] before.old.steps.now
         → HasReached due last.now → HasItsValue table.now fixed so_far → Outdoes table.now fixed ticks (due ∷ []) so_far result }
 {
     if due <= ticks {
@@ -150,8 +152,8 @@ fn greater_of(a: ValuedWindow, b: ValuedWindow) -> ValuedWindow
 /// The best window between two sweeps, from one time to another.
 fn best_between(
     table: &Table,
-    last: &CostSweep,
-    before: &CostSweep,
+    last: &CostSweep<'_>,
+    before: &CostSweep<'_>,
     from: u64,
     due: u64,
 ) -> ValuedWindow

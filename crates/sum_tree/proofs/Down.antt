@@ -1,62 +1,62 @@
 -- On the way down a tree, to the place at which the first numbers come to more than a sum.
-use Rattle.std.proofs.Common.{◌≡◌, ℕ, ◌+◌, ◌-◌, ◌*◌, ◌/◌, ◌%◌, ◌^◌, ◌<◌, ◌≤◌, suc, List, get_or, refl, ap, arith}
-use Rattle.std.proofs.lemmas.Bool.{eq-eqb, ne_eqb}
-use Rattle.sum_tree.specs.Nodes.{first_sum, IsSumTree, sum_from}
-use Rattle.sum_tree.specs.Private.Way.{left_of, level_sum}
-use Rattle.sum_tree.proofs.Powers.{two_le, two_least, two_more}
-use Rattle.sum_tree.proofs.Sums.{bottom-sum, level-step}
+use Rattle.std.proofs.Common.{◌≡◌, ℕ, zero, suc, ◌+◌, ◌-◌, ◌*◌, ◌^◌, ◌<◌, ◌≤◌, List, get_or, ap, subst, sym, ◌∙◌, arith}
+use Rattle.sum_tree.specs.Nodes.{AreLeftSums, IsSumTree, sum_from}
+use Rattle.sum_tree.specs.Private.Way.{IsBeyond, paired}
+use Rattle.sum_tree.proofs.Powers.{two_more}
+use Rattle.sum_tree.proofs.Sums.{sum-more, sum-pairs}
 
-module _ (height total first : ℕ) (nodes : List ℕ) (tree : IsSumTree height total first nodes) (level node left most : ℕ) (levels : level < height) (from : 2 ^ level ≤ node)
-    (within : node < 2 * 2 ^ level) (sum : level_sum nodes (2 ^ level) node + left ≡ most) (more : node + 1 < 2 * 2 ^ level → left < get_or nodes node 0) where
-  double : 2 ^ (level + 1) ≡ 2 * 2 ^ level
-  double = two_more level
+-- the levels above some others
+above : (levels height : ℕ) (number : ℕ → ℕ) (nodes : List ℕ) (all : ℕ) → all ≡ height + levels → AreLeftSums all number nodes → AreLeftSums height (paired levels number) nodes
+above zero height number nodes all is are = (let same : all ≡ height = omega (arith, is) in subst (λ n. AreLeftSums n number nodes) same are)
+above (suc levels) height number nodes all is are = (above levels (suc height) number nodes all (omega (arith, is)) are).1
 
-  top : 2 ^ (level + 1) ≤ 2 ^ height
-  top = two_le (level + 1) height (omega arith)
+module _ (height : ℕ) (number : ℕ → ℕ) (nodes : List ℕ) (tree : IsSumTree height number nodes) (most left levels level node : ℕ) (is : height ≡ suc level + levels)
+    (from : 2 ^ level ≤ node) (within : node < 2 * 2 ^ level) (beyond : IsBeyond number most left (suc levels) level node) where
+  below : ℕ → ℕ
+  below = paired levels number
 
-  pub low_bound : node * 2 < 2 * first
-  low_bound = omega (arith, tree.places, top, double)
+  at : ℕ
+  at = node - 2 ^ level
 
-  pair : get_or nodes node 0 ≡ get_or nodes (node * 2) 0 + get_or nodes (node * 2 + 1) 0
-  pair =
-      let own : get_or nodes node 0 ≡ get_or nodes (2 * node) 0 + get_or nodes (2 * node + 1) 0 = tree.pairs node (omega (arith, two_least level)) (omega (arith, tree.places, top, double)) in
-      let low : get_or nodes (2 * node) 0 ≡ get_or nodes (node * 2) 0 = ap (λ j. get_or nodes j 0) (let same : 2 * node ≡ node * 2 = omega arith in same) in
-      let high : get_or nodes (2 * node + 1) 0 ≡ get_or nodes (node * 2 + 1) 0 = ap (λ j. get_or nodes j 0) (let same : 2 * node + 1 ≡ node * 2 + 1 = omega arith in same) in
-      omega arith
+  read : get_or nodes node 0 ≡ paired levels number (2 * (node - 2 ^ level))
+  read =
+      let whole : 2 ^ level + (node - 2 ^ level) ≡ node = omega (arith, from) in
+      ap (λ j. get_or nodes j 0) (sym whole) ∙ (above levels (suc level) number nodes height is tree.sums).0 (node - 2 ^ level) (omega (arith, from, within))
 
-  -- what stands before the left one of the two below a node, and before the right one
-  pub left_sum : level_sum nodes (2 ^ (level + 1)) (node * 2) ≡ level_sum nodes (2 ^ level) node
-  left_sum =
-      let step = level-step height total first nodes (2 ^ (level + 1)) (2 ^ level) (node * 2) tree double (two_least level) top (omega (arith, double)) (omega (arith, double)) in
-      let half : (node * 2) / 2 ≡ node = omega arith in
-      let none : left_of nodes (node * 2) ≡ 0 = rw (ne_eqb ((node * 2) % 2) 1 (λ e. omega arith)) refl in
-      let same : level_sum nodes (2 ^ level) ((node * 2) / 2) ≡ level_sum nodes (2 ^ level) node = ap (λ n. level_sum nodes (2 ^ level) n) half in
-      omega (arith, step, none, same)
+  -- to the left one of the two below a node
+  pub goes-left : (next : ℕ) → next ≡ level + 1 → left < get_or nodes node 0 → IsBeyond number most left levels next (node * 2)
+  goes-left next next_is less =
+      let double : 2 ^ next ≡ 2 * 2 ^ level = ap (λ n. 2 ^ n) next_is ∙ two_more level in
+      let size : node * 2 - 2 ^ next ≡ 2 * (node - 2 ^ level) = omega (arith, double, from) in
+      record {
+        sum = omega (arith, ap (sum_from (paired levels number) 0) size, sum-pairs (paired levels number) (node - 2 ^ level), beyond.sum);
+        more = λ low. omega (arith, ap (paired levels number) size, read, less);
+      }
 
-  pub right_sum : level_sum nodes (2 ^ (level + 1)) (node * 2 + 1) ≡ level_sum nodes (2 ^ level) node + get_or nodes (node * 2) 0
-  right_sum =
-      let step = level-step height total first nodes (2 ^ (level + 1)) (2 ^ level) (node * 2 + 1) tree double (two_least level) top (omega (arith, double)) (omega (arith, double)) in
-      let half : (node * 2 + 1) / 2 ≡ node = omega arith in
-      let twin : (node * 2 + 1) - 1 ≡ node * 2 = omega arith in
-      let taken : left_of nodes (node * 2 + 1) ≡ get_or nodes ((node * 2 + 1) - 1) 0 = rw (eq-eqb ((node * 2 + 1) % 2) 1 (omega arith)) refl in
-      let at : get_or nodes ((node * 2 + 1) - 1) 0 ≡ get_or nodes (node * 2) 0 = ap (λ j. get_or nodes j 0) twin in
-      let same : level_sum nodes (2 ^ level) ((node * 2 + 1) / 2) ≡ level_sum nodes (2 ^ level) node = ap (λ n. level_sum nodes (2 ^ level) n) half in
-      omega (arith, step, taken, at, same)
-
-  -- the right one is taken where the left one is not too much
-  pub right_more : get_or nodes (node * 2) 0 ≤ left → node * 2 + 1 + 1 < 2 * 2 ^ (level + 1) → left - get_or nodes (node * 2) 0 < get_or nodes (node * 2 + 1) 0
-  right_more fits low = omega (arith, more (omega (arith, double)), pair)
+  -- to the right one
+  pub goes-right : (next rest : ℕ) → next ≡ level + 1 → rest + get_or nodes node 0 ≡ left → IsBeyond number most rest levels next (node * 2 + 1)
+  goes-right next rest next_is rest_is =
+      let double : 2 ^ next ≡ 2 * 2 ^ level = ap (λ n. 2 ^ n) next_is ∙ two_more level in
+      let size : node * 2 + 1 - 2 ^ next ≡ 2 * (node - 2 ^ level) + 1 = omega (arith, double, from) in
+      record {
+        sum = omega (
+          arith,
+          ap (sum_from (paired levels number) 0) size,
+          sum-more (paired levels number) (2 * (node - 2 ^ level)),
+          sum-pairs (paired levels number) (node - 2 ^ level),
+          beyond.sum,
+          read,
+          rest_is,
+        );
+        more = λ low. omega (arith, ap (paired levels number) size, read, rest_is, beyond.more (omega (arith, double, low)));
+      }
 
 -- at the places
-pub places_sum : (nodes : List ℕ) (first low at : ℕ) → low ≡ first → first ≤ at → level_sum nodes low at ≡ first_sum first nodes (at - first)
-places_sum nodes first low at same from =
-    let whole : first + (at - first) ≡ at = omega arith in
-    let bottom = bottom-sum nodes first (at - first) low same in
-    let here : level_sum nodes low (first + (at - first)) ≡ level_sum nodes low at = ap (λ n. level_sum nodes low n) whole in
-    omega (arith, bottom, here)
+pub ends-within : (number : ℕ → ℕ) (most left levels level node : ℕ) → levels ≡ 0 → IsBeyond number most left levels level node → sum_from number 0 (node - 2 ^ level) ≤ most
+ends-within number most left zero level node none beyond = omega (arith, beyond.sum)
+ends-within number most left (suc levels) level node none beyond = absurd (omega (arith, none))
 
-pub one_more : (nodes : List ℕ) (first count : ℕ) → first_sum first nodes (count + 1) ≡ first_sum first nodes count + get_or nodes (first + count) 0
-unfolding first_sum
-one_more nodes first count =
-    let next : count + 1 ≡ suc count = omega arith in
-    ap (λ n. sum_from (λ j. get_or nodes j 0) first n) next
+pub ends-more : (number : ℕ → ℕ) (most left levels level node : ℕ) → levels ≡ 0 → IsBeyond number most left levels level node → node + 1 < 2 * 2 ^ level
+    → most < sum_from number 0 ((node - 2 ^ level) + 1)
+ends-more number most left zero level node none beyond low = omega (arith, beyond.sum, beyond.more low, sum-more number (node - 2 ^ level))
+ends-more number most left (suc levels) level node none beyond low = absurd (omega (arith, none))

@@ -1,164 +1,148 @@
--- On the way up from a place whose number grew.
-use Rattle.std.proofs.Common.{
-  ◌≡◌,
-  ℕ,
-  zero,
-  suc,
-  ◌+◌,
-  ◌-◌,
-  ◌*◌,
-  ◌/◌,
-  ◌%◌,
-  ◌<◌,
-  ◌≤◌,
-  Bool,
-  true,
-  false,
-  cond,
-  List,
-  [],
-  ◌++◌,
-  length,
-  take,
-  drop,
-  nat_lt,
-  get_or,
-  set,
-  refl,
-  sym,
-  ap,
-  subst,
-  ◌∙◌,
-  inl,
-  inr,
-  arith,
+-- On the way up a tree.
+use Rattle.std.proofs.Common.{◌≡◌, ℕ, zero, suc, ◌+◌, ◌*◌, ◌/◌, ◌%◌, ◌^◌, ◌<◌, ◌≤◌, cond, List, [], ◌++◌, length, take, drop, nat_eq, get_or, refl, ap, ◌∙◌, inl, inr, arith}
+use Rattle.std.proofs.lemmas.Bool.{cases_eq, eq-eqb, ne_eqb}
+use Rattle.std.proofs.lemmas.List.{append-nil, drop_all, take_all}
+use Rattle.sum_tree.specs.Nodes.{AreLeftSums, grown, IsSumTree, pairs, sum_from}
+use Rattle.sum_tree.specs.Private.Way.{IsGrowing, IsSumming, left_of}
+use Rattle.sum_tree.proofs.Powers.{two_more}
+use Rattle.sum_tree.proofs.Sums.{number-le, pairs-even, pairs-grown, pairs-odd, sum-le, sum-pairs}
+
+power : (levels : ℕ) → 2 ^ suc levels ≡ 2 * 2 ^ levels
+power levels = let next : suc levels ≡ levels + 1 = omega arith in ap (λ n. 2 ^ n) next ∙ two_more levels
+
+-- ---- trees of equal numbers, and with equal nodes
+pub same-numbers : (height : ℕ) (number other : ℕ → ℕ) (nodes : List ℕ) → ((at : ℕ) → number at ≡ other at) → AreLeftSums height number nodes → AreLeftSums height other nodes
+same-numbers zero number other nodes same are = tt
+same-numbers (suc height) number other nodes same are = (
+  λ at low. are.0 at low ∙ same (2 * at),
+  same-numbers height (pairs number) (pairs other) nodes (λ at. omega (arith, same (2 * at), same (2 * at + 1))) are.1,
+)
+
+pub same-nodes : (height : ℕ) (number : ℕ → ℕ) (nodes other : List ℕ) → ((j : ℕ) → j < 2 ^ height → get_or other j 0 ≡ get_or nodes j 0) → AreLeftSums height number nodes
+    → AreLeftSums height number other
+same-nodes zero number nodes other same are = tt
+same-nodes (suc height) number nodes other same are = (
+  λ at low. same (2 ^ height + at) (omega (arith, power height, low)) ∙ are.0 at low,
+  same-nodes height (pairs number) nodes other (λ j low. same j (omega (arith, power height, low))) are.1,
+)
+
+-- ---- sums
+pub starts-summing : (height : ℕ) (number : ℕ → ℕ) (nodes : List ℕ) (count : ℕ) → count < 2 ^ height → IsSumTree height number nodes
+    → IsSumming number count 0 height nodes (length nodes + count)
+starts-summing height number nodes count low tree = record {
+  below = number;
+  at = count;
+  node_is = omega (arith, tree.size);
+  within = low;
+  above = tree.sums;
+  sum = omega arith;
 }
-use Rattle.std.proofs.lemmas.Bool.{cases_eq}
-use Rattle.std.proofs.lemmas.List.{append-nil, drop_all, get_or-set_other, get_or-set_same, length-set, take_all}
-use Rattle.sum_tree.specs.Nodes.{first_sum, IsPair, IsSumTree, sum_from}
-use Rattle.sum_tree.specs.Private.Way.{IsGrowing}
-use Rattle.sum_tree.proofs.Sums.{sum-grown}
 
--- a list with one number more at a node
-module _ (nodes : List ℕ) (at amount : ℕ) (within : at < length nodes) where
-  abbrev pub raised : List ℕ
-  raised = set nodes at (get_or nodes at 0 + amount)
+left-node : (nodes : List ℕ) (node : ℕ) → node % 2 ≡ 1 → left_of nodes node ≡ get_or nodes (node / 2) 0
+left-node nodes node odd = rw (eq-eqb (node % 2) 1 odd) refl
 
-  pub raised-own : get_or raised at 0 ≡ get_or nodes at 0 + amount
-  raised-own = get_or-set_same nodes at (get_or nodes at 0 + amount) 0 within
+no-left-node : (nodes : List ℕ) (node : ℕ) → (node % 2 ≡ 1 → ⊥) → left_of nodes node ≡ 0
+no-left-node nodes node even = rw (ne_eqb (node % 2) 1 even) refl
 
-  pub raised-other : (j : ℕ) → (j ≡ at → ⊥) → get_or raised j 0 ≡ get_or nodes j 0
-  raised-other j other = get_or-set_other nodes at j (get_or nodes at 0 + amount) 0 other
-
-  pub raised-most : (total : ℕ) → get_or nodes at 0 ≤ total → ((j : ℕ) → get_or nodes j 0 ≤ total + amount) → (j : ℕ) → get_or raised j 0 ≤ total + amount
-  raised-most total own most j = elim (cases_eq j at) as (λ _. get_or raised j 0 ≤ total + amount) [
-    | inl here ↦ (let same : get_or raised j 0 ≡ get_or nodes at 0 + amount = subst (λ n. get_or raised n 0 ≡ get_or nodes at 0 + amount) (sym here) raised-own in omega arith)
-    | inr other ↦ omega (arith, raised-other j other, most j)
-  ]
-
--- at the place itself
-pub starts-growing : (height total first place amount : ℕ) (nodes : List ℕ) → place < first → IsSumTree height total first nodes
-    → IsGrowing first total place amount nodes (set nodes (first + place) (get_or nodes (first + place) 0 + amount)) (first + place)
-starts-growing height total first place amount nodes low tree =
-    let at = first + place in
-    let within : at < length nodes = omega (arith, tree.size) in
-    let new = set nodes at (get_or nodes at 0 + amount) in
+-- one level up
+pub keeps-summing : (number : ℕ → ℕ) (count total levels : ℕ) (nodes : List ℕ) (node left : ℕ) → left ≡ left_of nodes node → IsSumming number count total (suc levels) nodes node
+    → IsSumming number count (total + left) levels nodes (node / 2)
+keeps-summing number count total levels nodes node left is summing =
+    let low = summing.within in
     record {
-      size = length-set nodes at (get_or nodes at 0 + amount) ∙ tree.size;
-      some = omega arith;
-      within = omega arith;
-      pairs = λ j some less other. (let here = raised-other nodes at amount within j (omega arith) in
-          let left = raised-other nodes at amount within (2 * j) (λ e. other (omega arith)) in
-          let right = raised-other nodes at amount within (2 * j + 1) (λ e. other (omega arith)) in
-          omega (arith, here, left, right, tree.pairs j some less));
-      pair = λ some. (let half = at / 2 in
-          let pair : IsPair nodes half = tree.pairs half some (omega arith) in
-          let here = raised-other nodes at amount within half (omega arith) in
-          elim (cases_eq (2 * half) at) as (λ _. get_or new half 0 + amount ≡ get_or new (2 * half) 0 + get_or new (2 * half + 1) 0) [
-            | inl left ↦
-                (let own : get_or new (2 * half) 0 ≡ get_or nodes (2 * half) 0 + amount =
-                subst (λ n. get_or new n 0 ≡ get_or nodes n 0 + amount) (sym left) (raised-own nodes at amount within) in
-                let right = raised-other nodes at amount within (2 * half + 1) (omega arith) in
-                omega (arith, here, own, right, pair))
-            | inr other ↦
-                (let is : 2 * half + 1 ≡ at = omega arith in
-                let own : get_or new (2 * half + 1) 0 ≡ get_or nodes (2 * half + 1) 0 + amount =
-                subst (λ n. get_or new n 0 ≡ get_or nodes n 0 + amount) (sym is) (raised-own nodes at amount within) in
-                let left = raised-other nodes at amount within (2 * half) other in
-                omega (arith, here, own, left, pair))
-          ]);
-      above = λ j less. omega (arith, raised-other nodes at amount within j (omega arith), tree.most j);
-      most = raised-most nodes at amount within total (tree.most at) (λ j. omega (arith, tree.most j));
-      others = λ j from other. raised-other nodes at amount within j other;
-      own = raised-own nodes at amount within;
+      below = pairs summing.below;
+      at = summing.at / 2;
+      node_is = omega (arith, power levels, summing.node_is);
+      within = omega (arith, power levels, low);
+      above = summing.above.1;
+      sum = elim (cases_eq (node % 2) 1) as (λ _. (total + left) + sum_from (pairs summing.below) 0 (summing.at / 2) ≡ sum_from number 0 count) [
+        | inl odd ↦
+            (let up : node / 2 ≡ 2 ^ levels + summing.at / 2 = omega (arith, power levels, summing.node_is) in
+            let read : get_or nodes (node / 2) 0 ≡ get_or nodes (2 ^ levels + summing.at / 2) 0 = ap (λ j. get_or nodes j 0) up in
+            let here : get_or nodes (2 ^ levels + summing.at / 2) 0 ≡ summing.below (2 * (summing.at / 2)) = summing.above.0 (summing.at / 2) (omega (arith, power levels, low)) in
+            let last = pairs-odd summing.below summing.at (omega (arith, power levels, summing.node_is, odd)) in
+            omega (arith, summing.sum, last, here, read, left-node nodes node odd, is))
+        | inr even ↦
+            (let none = pairs-even summing.below summing.at (λ e. even (omega (arith, power levels, summing.node_is, e))) in
+            omega (arith, summing.sum, none, no-left-node nodes node even, is))
+      ];
     }
 
--- one node up
-pub keeps-growing : (first total place amount : ℕ) (before nodes : List ℕ) (at : ℕ) → place < first → 2 ≤ at → IsGrowing first total place amount before nodes at
-    → IsGrowing first total place amount before (set nodes (at / 2) (get_or nodes (at / 2) 0 + amount)) (at / 2)
-keeps-growing first total place amount before nodes at low more growing =
-    let up = at / 2 in
-    let bound = growing.within in
-    let within : up < length nodes = omega (arith, growing.size) in
-    let new = set nodes up (get_or nodes up 0 + amount) in
+-- no sum on the way is more than that of all numbers
+pub summed-le : (height : ℕ) (number : ℕ → ℕ) (count total levels : ℕ) (nodes : List ℕ) (node : ℕ) → count < 2 ^ height → IsSumming number count total levels nodes node
+    → total ≤ sum_from number 0 (2 ^ height)
+summed-le height number count total levels nodes node low summing = omega (arith, summing.sum, sum-le number count (2 ^ height) (omega (arith, low)))
+
+-- at the root
+pub ends-summing : (number : ℕ → ℕ) (count total levels : ℕ) (nodes : List ℕ) (node : ℕ) → levels ≡ 0 → IsSumming number count total levels nodes node → total ≡ sum_from number 0 count
+ends-summing number count total zero nodes node last summing =
+    let none : summing.at ≡ 0 = omega (arith, summing.within) in
+    omega (arith, summing.sum, ap (sum_from summing.below 0) none)
+ends-summing number count total (suc levels) nodes node last summing = absurd (omega (arith, last))
+
+-- ---- a number that grew
+pub starts-growing : (height : ℕ) (number : ℕ → ℕ) (nodes : List ℕ) (place amount : ℕ) → place < 2 ^ height → IsSumTree height number nodes
+    → IsGrowing height number place amount height nodes (length nodes + place)
+starts-growing height number nodes place amount low tree = record {
+  below = number;
+  at = place;
+  node_is = omega (arith, tree.size);
+  within = low;
+  above = tree.sums;
+  whole = refl;
+  rest = λ after same are. are;
+}
+
+-- the node above has no more than all numbers
+pub above-le : (height : ℕ) (number : ℕ → ℕ) (place amount levels : ℕ) (nodes : List ℕ) (node : ℕ) → IsGrowing height number place amount (suc levels) nodes node
+    → get_or nodes (node / 2) 0 ≤ sum_from number 0 (2 ^ height)
+above-le height number place amount levels nodes node growing =
+    let low = growing.within in
+    let up : node / 2 ≡ 2 ^ levels + growing.at / 2 = omega (arith, power levels, growing.node_is) in
+    let read : get_or nodes (node / 2) 0 ≡ get_or nodes (2 ^ levels + growing.at / 2) 0 = ap (λ j. get_or nodes j 0) up in
+    let here : get_or nodes (2 ^ levels + growing.at / 2) 0 ≡ growing.below (2 * (growing.at / 2)) = growing.above.0 (growing.at / 2) (omega (arith, power levels, low)) in
+    let least = number-le growing.below (2 * (growing.at / 2)) (2 ^ suc levels) (omega (arith, low)) in
+    omega (arith, read, here, least, growing.whole)
+
+pub keeps-growing : (height : ℕ) (number : ℕ → ℕ) (place amount levels : ℕ) (nodes new : List ℕ) (node : ℕ)
+    → ((j : ℕ) → get_or new j 0 ≡ get_or nodes j 0 + cond (nat_eq (2 * j) node) amount 0) → IsGrowing height number place amount (suc levels) nodes node
+    → IsGrowing height number place amount levels new (node / 2)
+keeps-growing height number place amount levels nodes new node each growing =
+    let low = growing.within in
+    let at = growing.at in
+    let below = growing.below in
+    let double = power levels in
+    let node_is = growing.node_is in
+    let kept : (j : ℕ) → (2 * j ≡ node → ⊥) → get_or new j 0 ≡ get_or nodes j 0 = λ j other.
+    (let none : cond (nat_eq (2 * j) node) amount 0 ≡ 0 = rw (ne_eqb (2 * j) node other) refl in omega (arith, each j, none)) in
     record {
-      size = length-set nodes up (get_or nodes up 0 + amount) ∙ growing.size;
-      some = omega arith;
-      within = omega arith;
-      pairs = λ j some less other. elim (cases_eq j up) as (λ _. IsPair new j) [
-        | inl here ↦
-            (let own = raised-own nodes up amount within in
-            let left = raised-other nodes up amount within (2 * up) (omega arith) in
-            let right = raised-other nodes up amount within (2 * up + 1) (omega arith) in
-            let pair : get_or new up 0 ≡ get_or new (2 * up) 0 + get_or new (2 * up + 1) 0 = omega (arith, own, left, right, growing.pair (omega arith)) in
-            subst (λ n. IsPair new n) (sym here) pair)
-        | inr elsewhere ↦
-            (let here = raised-other nodes up amount within j elsewhere in
-            let left = raised-other nodes up amount within (2 * j) (λ e. other (omega arith)) in
-            let right = raised-other nodes up amount within (2 * j + 1) (λ e. other (omega arith)) in
-            omega (arith, here, left, right, growing.pairs j some less elsewhere))
-      ];
-      pair = λ some. (let half = up / 2 in
-          let pair : IsPair nodes half = growing.pairs half some (omega arith) (omega arith) in
-          let here = raised-other nodes up amount within half (omega arith) in
-          elim (cases_eq (2 * half) up) as (λ _. get_or new half 0 + amount ≡ get_or new (2 * half) 0 + get_or new (2 * half + 1) 0) [
-            | inl left ↦
-                (let own : get_or new (2 * half) 0 ≡ get_or nodes (2 * half) 0 + amount =
-                subst (λ n. get_or new n 0 ≡ get_or nodes n 0 + amount) (sym left) (raised-own nodes up amount within) in
-                let right = raised-other nodes up amount within (2 * half + 1) (omega arith) in
-                omega (arith, here, own, right, pair))
-            | inr other ↦
-                (let is : 2 * half + 1 ≡ up = omega arith in
-                let own : get_or new (2 * half + 1) 0 ≡ get_or nodes (2 * half + 1) 0 + amount =
-                subst (λ n. get_or new n 0 ≡ get_or nodes n 0 + amount) (sym is) (raised-own nodes up amount within) in
-                let left = raised-other nodes up amount within (2 * half) other in
-                omega (arith, here, own, left, pair))
-          ]);
-      above = λ j less. omega (arith, raised-other nodes up amount within j (omega arith), growing.above j (omega arith));
-      most = raised-most nodes up amount within total (growing.above up (omega arith)) growing.most;
-      others = λ j from other. raised-other nodes up amount within j (omega arith) ∙ growing.others j from other;
-      own = raised-other nodes up amount within (first + place) (omega arith) ∙ growing.own;
+      below = pairs below;
+      at = at / 2;
+      node_is = omega (arith, double, node_is);
+      within = omega (arith, double, low);
+      above = same-nodes levels (pairs below) nodes new (λ j less. kept j (λ e. omega (arith, double, node_is, less, e))) growing.above.1;
+      whole = omega (arith, sum-pairs below (2 ^ levels), ap (sum_from below 0) double, growing.whole);
+      rest = λ after same are. growing.rest after (λ j from. same j (omega (arith, double, from)) ∙ kept j (λ e. omega (arith, double, node_is, low, from, e))) (
+        λ k less. (let read : get_or after (2 ^ levels + k) 0 ≡ get_or new (2 ^ levels + k) 0 = same (2 ^ levels + k) (omega arith) in
+            let old : get_or nodes (2 ^ levels + k) 0 ≡ below (2 * k) = growing.above.0 k less in
+            elim (cases_eq (2 * k) at) as (λ _. get_or after (2 ^ levels + k) 0 ≡ grown below at amount (2 * k)) [
+              | inl here ↦
+                  (let added : cond (nat_eq (2 * (2 ^ levels + k)) node) amount 0 ≡ amount = rw (eq-eqb (2 * (2 ^ levels + k)) node (omega (arith, double, node_is, here))) refl in
+                  let own : cond (nat_eq (2 * k) at) amount 0 ≡ amount = rw (eq-eqb (2 * k) at here) refl in
+                  omega (arith, read, old, each (2 ^ levels + k), added, own))
+              | inr other ↦
+                  (let none : cond (nat_eq (2 * k) at) amount 0 ≡ 0 = rw (ne_eqb (2 * k) at other) refl in
+                  omega (arith, read, old, kept (2 ^ levels + k) (λ e. other (omega (arith, double, node_is, e))), none))
+            ]),
+        same-numbers levels (grown (pairs below) (at / 2) amount) (pairs (grown below at amount)) after (pairs-grown below at amount) are,
+      );
     }
 
 -- at the root
-pub has-grown : (height total first place amount : ℕ) (before nodes : List ℕ) → IsSumTree height total first before → IsGrowing first total place amount before nodes 1
-    → ((k : ℕ) → first_sum first nodes k ≡ first_sum first before k + cond (nat_lt place k) amount 0) → IsSumTree height (total + amount) first nodes
-has-grown height total first place amount before nodes tree growing sums = record {
-  places = tree.places;
-  size = growing.size;
-  pairs = λ j some less. growing.pairs j some less (omega arith);
-  most = growing.most;
-  sums = λ k low. (let own : cond (nat_lt place k) amount 0 ≤ amount = cond-le (nat_lt place k) in omega (arith, sums k, tree.sums k low));
-}
-  where
-    cond-le : (b : Bool) → cond b amount 0 ≤ amount
-    cond-le true = omega arith
-    cond-le false = omega arith
-
-pub grown-sums : (first total place amount : ℕ) (before nodes : List ℕ) (at : ℕ) → IsGrowing first total place amount before nodes at → (k : ℕ)
-    → first_sum first nodes k ≡ first_sum first before k + cond (nat_lt place k) amount 0
-unfolding first_sum
-grown-sums first total place amount before nodes at growing k = sum-grown (λ j. get_or before j 0) (λ j. get_or nodes j 0) first place amount k growing.others growing.own
+pub has-grown : (height : ℕ) (number : ℕ → ℕ) (place amount levels : ℕ) (nodes : List ℕ) (node : ℕ) → levels ≡ 0 → IsGrowing height number place amount levels nodes node
+    → AreLeftSums height (grown number place amount) nodes
+has-grown height number place amount zero nodes node none growing = growing.rest nodes (λ j from. refl) tt
+has-grown height number place amount (suc levels) nodes node none growing = absurd (omega (arith, none))
 
 -- what is written through a slice of all items is what the list then has
 pub written-back : (size : ℕ) (new old : List ℕ) → length new ≡ length old → size ≡ length old → take size (new ++ drop (length new) old) ≡ new

@@ -1,31 +1,29 @@
 -- A tree of zeros.
-use Rattle.std.proofs.Common.{◌≡◌, ℕ, zero, suc, ◌+◌, ◌*◌, ◌^◌, ◌≤◌, List, length, replicate, get_or, refl, ap, ◌∙◌, inl, inr, arith}
+use Rattle.std.proofs.Common.{◌≡◌, ℕ, zero, suc, ◌+◌, ◌*◌, ◌^◌, replicate, get_or, refl, inl, inr, arith}
 use Rattle.std.proofs.lemmas.Bool.{cases_lt}
 use Rattle.std.proofs.lemmas.List.{get_or-replicate, get_or_past, length-replicate}
-use Rattle.sum_tree.specs.Nodes.{first_sum, IsSumTree, sum_from}
+use Rattle.sum_tree.specs.Nodes.{AreLeftSums, IsSumTree, pairs, sum_from}
 
-abbrev zeros : (n : ℕ) → List ℕ
-zeros n = replicate n 0
-
-zero-at : (n j : ℕ) → get_or (zeros n) j 0 ≡ 0
-zero-at n j = elim (cases_lt j n) as (λ _. get_or (zeros n) j 0 ≡ 0) [
+zero-at : (n j : ℕ) → get_or (replicate {A = ℕ} n 0) j 0 ≡ 0
+zero-at n j = elim (cases_lt j n) as (λ _. get_or (replicate {A = ℕ} n 0) j 0 ≡ 0) [
   | inl low ↦ get_or-replicate n j 0 0 low
-  | inr high ↦ get_or_past (zeros n) j 0 (omega (arith, length-replicate {A = ℕ} n 0))
+  | inr high ↦ get_or_past (replicate {A = ℕ} n 0) j 0 (omega (arith, length-replicate {A = ℕ} n 0))
 ]
 
-sum-zeros : (n first k : ℕ) → sum_from (λ j. get_or (zeros n) j 0) first k ≡ 0
-sum-zeros n first zero = refl
-sum-zeros n first (suc k) = omega (arith, sum-zeros n first k, zero-at n (first + k))
+zero-sums : (n height : ℕ) (number : ℕ → ℕ) → ((at : ℕ) → number at ≡ 0) → AreLeftSums height number (replicate {A = ℕ} n 0)
+zero-sums n zero number none = tt
+zero-sums n (suc height) number none = (
+  λ at low. omega (arith, zero-at n (2 ^ height + at), none (2 * at)),
+  zero-sums n height (pairs number) (λ at. omega (arith, none (2 * at), none (2 * at + 1))),
+)
 
-pub zeros-sum : (n first k : ℕ) → first_sum first (zeros n) k ≡ 0
-unfolding first_sum
-zeros-sum n first k = sum-zeros n first k
-
-pub zeros-tree : (height first : ℕ) → first ≡ 2 ^ height → IsSumTree height 0 first (zeros (2 * first))
-zeros-tree height first is = record {
-  places = is;
-  size = length-replicate {A = ℕ} (2 * first) 0;
-  pairs = λ j some less. omega (arith, zero-at (2 * first) j, zero-at (2 * first) (2 * j), zero-at (2 * first) (2 * j + 1));
-  most = λ j. omega (arith, zero-at (2 * first) j);
-  sums = λ k low. omega (arith, zeros-sum (2 * first) first k);
+pub zeros-tree : (height n : ℕ) → n ≡ 2 ^ height → IsSumTree height (λ place. 0) (replicate {A = ℕ} n 0)
+zeros-tree height n is = record {
+  size = omega (arith, length-replicate {A = ℕ} n 0, is);
+  sums = zero-sums n height (λ place. 0) (λ at. refl);
 }
+
+-- no number has a sum
+pub zeros-sum : (count : ℕ) → sum_from (λ place. 0) 0 count ≡ 0
+zeros-sum zero = refl
+zeros-sum (suc count) = omega (arith, zeros-sum count)

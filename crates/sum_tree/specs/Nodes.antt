@@ -1,23 +1,26 @@
 -- A tree of sums as the list of its nodes.
-use Rattle.std.specs.Prelude.{◌≡◌, ℕ, zero, suc, ◌+◌, ◌*◌, ◌^◌, ◌<◌, ◌≤◌, List, length, slice_index}
+use Rattle.std.specs.Prelude.{◌≡◌, ℕ, zero, suc, ◌+◌, ◌*◌, ◌^◌, ◌<◌, List, length, cond, nat_eq, slice_index}
 
 -- the sum of so many numbers from a place on
 abbrev pub sum_from : (number : ℕ → ℕ) → (first count : ℕ) → ℕ
 sum_from number first zero = 0
 sum_from number first (suc count) = sum_from number first count + number (first + count)
 
--- the sum of the first numbers, where the first place is this node
-unfoldable pub first_sum : (first : ℕ) → List ℕ → (count : ℕ) → ℕ
-first_sum first nodes count = sum_from (slice_index nodes) first count
+-- numbers of which the one at a place grew
+abbrev pub grown : (number : ℕ → ℕ) → (place amount : ℕ) → (at : ℕ) → ℕ
+grown number place amount at = number at + cond (nat_eq at place) amount 0
 
--- the sum at a node is that of the two below it
-abbrev pub IsPair : List ℕ → (j : ℕ) → Type 0
-IsPair nodes j = slice_index nodes j ≡ slice_index nodes (2 * j) + slice_index nodes (2 * j + 1)
+-- the sums of numbers two by two
+abbrev pub pairs : (number : ℕ → ℕ) → (at : ℕ) → ℕ
+pairs number at = number (2 * at) + number (2 * at + 1)
 
--- each node but the places has the sum of the two below it; no node, and no sum of the first places, is more than the total
-pub record IsSumTree (height total first : ℕ) (nodes : List ℕ) : Type 0 where
-  pub places : first ≡ 2 ^ height
-  pub size : length nodes ≡ 2 * first
-  pub pairs : (j : ℕ) → 1 ≤ j → j < first → IsPair nodes j
-  pub most : (j : ℕ) → slice_index nodes j ≤ total
-  pub sums : (k : ℕ) → k ≤ first → first_sum first nodes k ≤ total
+-- each node of these levels has the sum of what stands below it on the left: on the lowest level, that is the first one of two numbers, and on the levels
+-- above it the same of their sums two by two
+abbrev pub AreLeftSums : (height : ℕ) → (number : ℕ → ℕ) → List ℕ → Type 0
+AreLeftSums zero number nodes = Unit {0}
+AreLeftSums (suc height) number nodes = ((at : ℕ) → at < 2 ^ height → slice_index nodes (2 ^ height + at) ≡ number (2 * at)) × AreLeftSums height (pairs number) nodes
+
+-- a tree of the numbers at 2 to the power of the height places: node 1 is its root, and below node n are the nodes 2n and 2n + 1
+pub record IsSumTree (height : ℕ) (number : ℕ → ℕ) (nodes : List ℕ) : Type 0 where
+  pub size : length nodes ≡ 2 ^ height
+  pub sums : AreLeftSums height number nodes

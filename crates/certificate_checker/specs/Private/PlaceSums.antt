@@ -1,11 +1,14 @@
 -- Sums of numbers at places, as the nodes of a tree: the places are the last nodes, and below node n are the nodes 2n and 2n + 1.
 use Rattle.std.specs.Prelude.{◌≡◌, ℕ, ◌+◌, ◌-◌, ◌*◌, ◌/◌, ◌%◌, ◌^◌, ◌<◌, ◌≤◌, List, length, nat_eq, cond, slice_index}
-use Rattle.sum_tree.specs.Nodes.{IsPair}
 use Rattle.certificate_checker.specs.declared.sums.PlaceSums.{PlaceSums}
 
 -- the number at a place
 abbrev pub number_at : PlaceSums → (place : ℕ) → ℕ
 number_at sums place = slice_index sums.nodes.items (sums.count + place)
+
+-- the sum at a node is that of the two below it
+abbrev pub IsPair : List ℕ → (j : ℕ) → Type 0
+IsPair nodes j = slice_index nodes j ≡ slice_index nodes (2 * j) + slice_index nodes (2 * j + 1)
 
 -- each node before the places but the first is the sum of the two below it; the numbers at places have 64 bits
 pub record AreSums (sums : PlaceSums) : Type 0 where

@@ -22,9 +22,9 @@ pub record Outdoes (table : Table) (fixed : List (Option ℕ)) (ticks : ℕ) (du
 
 -- the steps before the place of a sweep are due more than so many ticks before a time
 abbrev pub IsBehindBy : (ticks time : ℕ) → CostSweep → Type 0
-IsBehindBy ticks time sweep = (k : ℕ) (d : CostStep) → k < sweep.place → (slice_index_or sweep.steps.items k d).due + ticks < time
+IsBehindBy ticks time sweep = (k : ℕ) (d : CostStep) → k < sweep.place → (slice_index_or sweep.steps.now k d).due + ticks < time
 
 -- one sweep is behind all due times that another has before it
 abbrev pub IsBehindAll : (ticks : ℕ) → (before last : CostSweep) → Type 0
 IsBehindAll ticks before last =
-    (j : ℕ) (d : CostStep) → last.place ≤ j → j < length last.steps.items → IsBehindBy ticks (slice_index_or last.steps.items j d).due before
+    (j : ℕ) (d : CostStep) → last.place ≤ j → j < length last.steps.now → IsBehindBy ticks (slice_index_or last.steps.now j d).due before

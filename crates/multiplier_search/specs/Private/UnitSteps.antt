@@ -11,8 +11,10 @@ use Rattle.dual_bounds.specs.Values.{least_costs, price}
 use Rattle.cost_sweep.specs.declared.step.CostStep.{CostStep}
 use Rattle.cost_sweep.specs.declared.sweep.CostSweep.{CostSweep}
 use Rattle.cost_sweep.specs.declared.sweep.Costs.{Costs}
+use Rattle.cost_sweep.specs.declared.sorted.SortedSteps.{SortedSteps}
+use Rattle.cost_sweep.specs.Sorted.{AreSorted}
 use Rattle.cost_sweep.specs.Steps.{AreSmall, paid_by, spared_by}
-use Rattle.cost_sweep.specs.Sweep.{HasReached, IsSweep}
+use Rattle.cost_sweep.specs.Sweep.{HasReached}
 use Rattle.cost_steps.specs.Steps.{TellLeastAbove}
 use Rattle.multiplier_search.specs.declared.single.Valued.{Valued}
 use Rattle.multiplier_search.specs.Single.{IsFirstBest, dues_of, value_alone}
@@ -60,10 +62,10 @@ pub record AreStepsOf (table : Table) (fixed : List (Option ℕ)) (windows : Lis
   pub from : (time : ℕ) → Contains (times_of steps) time → Contains (dues_of (units_of table)) time
   pub all : (time : ℕ) → Contains (dues_of (units_of table)) time → Contains (times_of steps) time
 
--- a sweep over the steps of all units of a table beside some windows
-pub record IsSweepOf (table : Table) (fixed : List (Option ℕ)) (windows : List Window) (sweep : CostSweep) : Type 0 where
-  pub is : IsSweep sweep
-  pub steps : AreStepsOf table fixed windows sweep.steps.items
+-- the steps of all units of a table beside some windows, in order
+pub record AreSortedOf (table : Table) (fixed : List (Option ℕ)) (windows : List Window) (sorted : SortedSteps) : Type 0 where
+  pub are : AreSorted sorted.steps.items sorted.prices.items
+  pub steps : AreStepsOf table fixed windows sorted.steps.items
 
 -- the value that stands beside a multiplier is its value alone
 abbrev pub IsValued : Table → List (Option ℕ) → Valued → Type 0
@@ -89,8 +91,8 @@ IsBestValued table fixed dues (Some valued) = IsFirstBest table fixed dues value
 pub record AreAtWindow (table : Table) (fixed : List (Option ℕ)) (windows : List Window) (from due : ℕ) (last before : CostSweep) : Type 0 where
   pub order : from ≤ due
   pub some : 1 ≤ from
-  pub steps : AreStepsOf table fixed windows last.steps.items
-  pub early : AreStepsOf table fixed windows before.steps.items
+  pub steps : AreStepsOf table fixed windows last.steps.now
+  pub early : AreStepsOf table fixed windows before.steps.now
   pub reached : HasReached due last
   pub passed : (time : ℕ) → time + 1 ≡ from → HasReached time before
 

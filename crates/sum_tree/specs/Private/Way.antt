@@ -1,23 +1,38 @@
--- On the way up a tree.
-use Rattle.std.specs.Prelude.{◌≡◌, ℕ, ◌+◌, ◌-◌, ◌*◌, ◌/◌, ◌%◌, ◌<◌, ◌≤◌, List, length, nat_eq, cond, slice_index}
-use Rattle.sum_tree.specs.Nodes.{IsPair, sum_from}
+-- On the way up a tree, and down.
+use Rattle.std.specs.Prelude.{◌≡◌, ℕ, zero, suc, ◌+◌, ◌-◌, ◌*◌, ◌/◌, ◌%◌, ◌^◌, ◌<◌, ◌≤◌, List, nat_eq, cond, slice_index}
+use Rattle.sum_tree.specs.Nodes.{AreLeftSums, grown, pairs, sum_from}
 
--- the number to the left of a node that is the right one of two
-abbrev pub left_of : List ℕ → (j : ℕ) → ℕ
-left_of nodes j = cond (nat_eq (j % 2) 1) (slice_index nodes (j - 1)) 0
+-- what stands below the node to the left, where a node is the right one of two
+abbrev pub left_of : List ℕ → (node : ℕ) → ℕ
+left_of nodes node = cond (nat_eq (node % 2) 1) (slice_index nodes (node / 2)) 0
 
--- the sum of the nodes of a level that stand before this one, where the level begins at node `low`
-abbrev pub level_sum : List ℕ → (low at : ℕ) → ℕ
-level_sum nodes low at = sum_from (slice_index nodes) low (at - low)
+-- the sums of numbers, so many times two by two
+abbrev pub paired : (times : ℕ) → (number : ℕ → ℕ) → (at : ℕ) → ℕ
+paired zero number = number
+paired (suc times) number = pairs (paired times number)
 
--- what holds on the way up from a place whose number grew: the sums that are not on the way, and what is still to be added above a node
-pub record IsGrowing (first total place amount : ℕ) (before nodes : List ℕ) (at : ℕ) : Type 0 where
-  pub size : length nodes ≡ 2 * first
-  pub some : 1 ≤ at
-  pub within : at < 2 * first
-  pub pairs : (j : ℕ) → 1 ≤ j → j < first → (j ≡ at / 2 → ⊥) → IsPair nodes j
-  pub pair : 1 ≤ at / 2 → slice_index nodes (at / 2) + amount ≡ slice_index nodes (2 * (at / 2)) + slice_index nodes (2 * (at / 2) + 1)
-  pub above : (j : ℕ) → j < at → slice_index nodes j ≤ total
-  pub most : (j : ℕ) → slice_index nodes j ≤ total + amount
-  pub others : (j : ℕ) → first ≤ j → (j ≡ first + place → ⊥) → slice_index nodes j ≡ slice_index before j
-  pub own : slice_index nodes (first + place) ≡ slice_index before (first + place) + amount
+-- on the way up from behind the first numbers: what is summed, and what stands below the nodes to the left of a node, above which so many levels stand
+pub record IsSumming (number : ℕ → ℕ) (count total levels : ℕ) (nodes : List ℕ) (node : ℕ) : Type 0 where
+  pub below : ℕ → ℕ
+  pub at : ℕ
+  pub node_is : node ≡ 2 ^ levels + at
+  pub within : at < 2 ^ levels
+  pub above : AreLeftSums levels below nodes
+  pub sum : total + sum_from below 0 at ≡ sum_from number 0 count
+
+-- on the way up from a place whose number grew: the nodes above are still those of before; where they are made right without a change of the others, all are
+pub record IsGrowing (height : ℕ) (number : ℕ → ℕ) (place amount levels : ℕ) (nodes : List ℕ) (node : ℕ) : Type 0 where
+  pub below : ℕ → ℕ
+  pub at : ℕ
+  pub node_is : node ≡ 2 ^ levels + at
+  pub within : at < 2 ^ levels
+  pub above : AreLeftSums levels below nodes
+  pub whole : sum_from below 0 (2 ^ levels) ≡ sum_from number 0 (2 ^ height)
+  pub rest : (after : List ℕ) → ((j : ℕ) → 2 ^ levels ≤ j → slice_index after j ≡ slice_index nodes j) → AreLeftSums levels (grown below at amount) after
+      → AreLeftSums height (grown number place amount) after
+
+-- on the way down: what is left, and what stands below the nodes to the left of a node, below which so many levels stand; with the node itself it is too much,
+-- but where the node is its level's last
+pub record IsBeyond (number : ℕ → ℕ) (most left levels level node : ℕ) : Type 0 where
+  pub sum : sum_from (paired levels number) 0 (node - 2 ^ level) + left ≡ most
+  pub more : node + 1 < 2 * 2 ^ level → left < paired levels number (node - 2 ^ level)

@@ -13,9 +13,9 @@ abbrev pub invariant-loop-low : goal.invariant-loop-low
 invariant-loop-low l = record {
   order : l.low ≤ l.high;
   most : l.high ≤ LAMBDA_MOST;
-  rises : (table : Table) (fixed : List (Option ℕ)) (windows : List Window) (due : ℕ) → AreStepsOf table fixed windows l.sweep.steps.items → HasReached due l.sweep → l.capacity ≡ room table 0 due
+  rises : (table : Table) (fixed : List (Option ℕ)) (windows : List Window) (due : ℕ) → AreStepsOf table fixed windows l.sweep.steps.now → HasReached due l.sweep → l.capacity ≡ room table 0 due
       → RisesTo (value_beside table fixed windows 0 due) l.low;
-  ends : (table : Table) (fixed : List (Option ℕ)) (windows : List Window) (due : ℕ) → AreStepsOf table fixed windows l.sweep.steps.items → HasReached due l.sweep → l.capacity ≡ room table 0 due
+  ends : (table : Table) (fixed : List (Option ℕ)) (windows : List Window) (due : ℕ) → AreStepsOf table fixed windows l.sweep.steps.now → HasReached due l.sweep → l.capacity ≡ room table 0 due
       → EndsRise (value_beside table fixed windows 0 due) l.high;
 }
 

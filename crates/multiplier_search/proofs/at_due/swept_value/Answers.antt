@@ -7,7 +7,7 @@ use Rattle.multiplier_search.proofs.at_due.swept_value.Goals as goal
 
 pub returns : goal.returns
 returns c = λ table fixed windows due are reached room-is.
-    let is = value-is table fixed windows c.args.sweep.now.steps.items due c.args.lambda c.costs-costs.result.paid c.costs-costs.result.spared c.args.capacity c.requires.lambda are
+    let is = value-is table fixed windows c.args.sweep.now.steps.now due c.args.lambda c.costs-costs.result.paid c.costs-costs.result.spared c.args.capacity c.requires.lambda are
     (c.costs-costs.ensures.paid due reached) (c.costs-costs.ensures.spared due reached) room-is in
     let fits : SFits w64 c.args.capacity = search rules in
     let same : to_z w64 (of_z w64 c.args.capacity) ≡ c.args.capacity = to_z-of_z w64 c.args.capacity fits in

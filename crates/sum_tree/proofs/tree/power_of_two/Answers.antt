@@ -1,4 +1,4 @@
-use Rattle.std.proofs.Common.{◌≡◌, ◌≤◌, ◌^◌, ap, subst, sym, arith}
+use Rattle.std.proofs.Common.{◌≡◌, ◌^◌, subst, arith}
 use Rattle.sum_tree.proofs.Powers.{two_more, two_most}
 use Rattle.sum_tree.proofs.tree.power_of_two.Goals as goal
 

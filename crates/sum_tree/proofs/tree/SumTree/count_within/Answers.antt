@@ -1,70 +1,64 @@
-use Rattle.std.proofs.Common.{◌≡◌, ℕ, ◌+◌, ◌-◌, ◌*◌, ◌^◌, ◌≤◌, List, length, get_or, ap, subst, sym, ◌∙◌, arith}
-use Rattle.sum_tree.specs.Private.Way.{level_sum}
-use Rattle.sum_tree.proofs.Powers.{two_more}
-use Rattle.sum_tree.proofs.Down.{left_sum, low_bound, one_more, places_sum, right_more, right_sum}
+use Rattle.std.proofs.Common.{◌≡◌, ℕ, suc, refl, ◌+◌, ◌-◌, ◌*◌, ◌^◌, ◌<◌, ◌≤◌, List, length, get_or, ap, subst, sym, ◌∙◌, arith}
+use Rattle.sum_tree.specs.Nodes.{IsSumTree, sum_from}
+use Rattle.sum_tree.specs.Private.Way.{IsBeyond}
+use Rattle.sum_tree.proofs.Powers.{two_le, two_more}
+use Rattle.sum_tree.proofs.Down.{ends-more, ends-within, goes-left, goes-right}
 use Rattle.sum_tree.proofs.tree.SumTree.count_within.Goals as goal
 use Rattle.sum_tree.proofs.tree.SumTree.count_within.Goals.{else-below-left, then-below-left}
 
 pub bounds-nodes-node : goal.bounds-nodes-node
 bounds-nodes-node c =
-    let tree = c.requires.tree.1 in
     let self = c.args.self.now in
-    let is = c.loop-level.invariant in
-    let low = low_bound self.height c.requires.tree.0 self.first self.nodes.items tree c.loop-level._level c.loop-level.node c.loop-level.left c.args.most
-    c.loop-level-test.true is.from is.within is.sum is.more in
-    omega (arith, low, tree.size, ap (length {A = ℕ}) c.as_slice-nodes.ensures.value)
+    let level = c.loop-level._level in
+    let top = two_le (level + 1) self.height (omega (arith, c.loop-level-test.true)) in
+    omega (arith, top, two_more level, c.loop-level.invariant.within, c.requires.tree.1.size, ap (length {A = ℕ}) c.as_slice-nodes.ensures.value)
 
 pub loop-level-preserved : goal.loop-level-preserved
 loop-level-preserved c =
-    let tree = c.requires.tree.1 in
     let self = c.args.self.now in
-    let nodes = self.nodes.items in
+    let most = c.args.most in
     let level = c.loop-level._level in
     let node = c.loop-level.node in
     let left = c.loop-level.left in
     let is = c.loop-level.invariant in
-    let below = left_sum self.height c.requires.tree.0 self.first nodes tree level node left c.args.most c.loop-level-test.true is.from is.within is.sum is.more in
-    let beside = right_sum self.height c.requires.tree.0 self.first nodes tree level node left c.args.most c.loop-level-test.true is.from is.within is.sum is.more in
-    let more = right_more self.height c.requires.tree.0 self.first nodes tree level node left c.args.most c.loop-level-test.true is.from is.within is.sum is.more in
+    let levels = self.height - (level + 1) in
+    let whole : self.height ≡ suc level + (self.height - (level + 1)) = omega (arith, c.loop-level-test.true) in
+    let next : self.height - level ≡ suc (self.height - (level + 1)) = omega (arith, c.loop-level-test.true) in
+    let beyond : (number : ℕ → ℕ) → IsSumTree self.height number self.nodes.items → IsBeyond number most left (suc levels) level node =
+    λ number tree. subst (λ n. IsBeyond number most left n level node) next (is.beyond number tree) in
     let double = two_more level in
-    let read : get_or c.as_slice-nodes.result.now (node * 2) 0 ≡ get_or nodes (node * 2) 0 = ap (λ (x : List ℕ). get_or x (node * 2) 0) c.as_slice-nodes.ensures.value in
+    let read : get_or c.as_slice-nodes.result.now node 0 ≡ get_or self.nodes.items node 0 = ap (λ (x : List ℕ). get_or x node 0) c.as_slice-nodes.ensures.value in
     elim c.if-below-left.branch [
       | then-below-left w ↦ record {
         from = omega (arith, double, w.node-is, is.from);
         within = omega (arith, double, w.node-is, is.within);
-        sum = (let at = subst (λ n. level_sum nodes (2 ^ (level + 1)) n ≡ level_sum nodes (2 ^ level) node + get_or nodes (node * 2) 0) (sym w.node-is) beside in
-            omega (arith, at, read, w.left-is, w.if-below-left, is.sum));
-        more = λ low. (let at = ap (λ n. get_or nodes n 0) w.node-is in
-            omega (arith, at, read, w.left-is, more (omega (arith, read, w.if-below-left)) (omega (arith, w.node-is))));
+        beyond = λ number tree. subst (λ n. IsBeyond number most c.if-below-left.left levels (level + 1) n) (sym w.node-is)
+            (goes-right self.height number self.nodes.items tree most left levels level node whole is.from is.within (beyond number tree) (level + 1) c.if-below-left.left refl
+            (omega (arith, read, w.left-is, w.if-below-left)));
       }
       | else-below-left w ↦ record {
         from = omega (arith, double, w.node-is, is.from);
         within = omega (arith, double, w.node-is, is.within);
-        sum = (let at = subst (λ n. level_sum nodes (2 ^ (level + 1)) n ≡ level_sum nodes (2 ^ level) node) (sym w.node-is) below in
-            omega (arith, at, w.left-is, is.sum));
-        more = λ low. (let at = ap (λ n. get_or nodes n 0) w.node-is in
-            omega (arith, at, read, w.left-is, w.if-below-left));
+        beyond = λ number tree. subst (λ n. IsBeyond number most c.if-below-left.left levels (level + 1) n) (sym w.node-is)
+            (subst (λ n. IsBeyond number most n levels (level + 1) (node * 2)) (sym w.left-is)
+            (goes-left self.height number self.nodes.items tree most left levels level node whole is.from is.within (beyond number tree) (level + 1) refl
+            (omega (arith, read, w.if-below-left))));
       }
     ]
 
 pub returns-clause-within : goal.returns-clause-within
-returns-clause-within c =
-    let tree = c.requires.tree.1 in
-    let self = c.args.self.now in
-    let last : c.loop-level._level ≡ self.height = omega arith in
-    let low : 2 ^ c.loop-level._level ≡ self.first = ap (λ n. 2 ^ n) last ∙ sym tree.places in
-    let sum = places_sum self.nodes.items self.first (2 ^ c.loop-level._level) c.loop-level.node low (omega (arith, low, c.loop-level.invariant.from)) in
-    omega (arith, sum, c.loop-level.invariant.sum)
+returns-clause-within c = λ number tree.
+    let last : c.args.self.now.height - c.loop-level._level ≡ 0 = omega arith in
+    let size : length c.as_slice-nodes.result.now ≡ 2 ^ c.loop-level._level =
+    ap (length {A = ℕ}) c.as_slice-nodes.ensures.value ∙ tree.size ∙ ap (λ n. 2 ^ n) (omega (arith, c.loop-level-test.false, c.loop-level.auto)) in
+    let is = ends-within number c.args.most c.loop-level.left (c.args.self.now.height - c.loop-level._level) c.loop-level._level c.loop-level.node last (c.loop-level.invariant.beyond number tree) in
+    subst (λ n. sum_from number 0 (c.loop-level.node - n) ≤ c.args.most) (sym size) is
 
 pub returns-clause-more : goal.returns-clause-more
-returns-clause-more c =
-    let tree = c.requires.tree.1 in
-    let self = c.args.self.now in
-    let last : c.loop-level._level ≡ self.height = omega arith in
-    let low : 2 ^ c.loop-level._level ≡ self.first = ap (λ n. 2 ^ n) last ∙ sym tree.places in
-    let from : self.first ≤ c.loop-level.node = omega (arith, low, c.loop-level.invariant.from) in
-    let sum = places_sum self.nodes.items self.first (2 ^ c.loop-level._level) c.loop-level.node low from in
-    let next = one_more self.nodes.items self.first (c.loop-level.node - self.first) in
-    let whole : self.first + (c.loop-level.node - self.first) ≡ c.loop-level.node = omega arith in
-    let here : get_or self.nodes.items (self.first + (c.loop-level.node - self.first)) 0 ≡ get_or self.nodes.items c.loop-level.node 0 = ap (λ j. get_or self.nodes.items j 0) whole in
-    λ within. omega (arith, sum, next, here, c.loop-level.invariant.sum, c.loop-level.invariant.more (omega (arith, low)))
+returns-clause-more c = λ number tree low.
+    let last : c.args.self.now.height - c.loop-level._level ≡ 0 = omega arith in
+    let at : 2 ^ c.args.self.now.height ≡ 2 ^ c.loop-level._level = ap (λ n. 2 ^ n) (omega (arith, c.loop-level-test.false, c.loop-level.auto)) in
+    let size : length c.as_slice-nodes.result.now ≡ 2 ^ c.loop-level._level = ap (length {A = ℕ}) c.as_slice-nodes.ensures.value ∙ tree.size ∙ at in
+    let is = ends-more number c.args.most c.loop-level.left (c.args.self.now.height - c.loop-level._level) c.loop-level._level c.loop-level.node last (c.loop-level.invariant.beyond number tree)
+    (omega (arith, low, at, size, c.loop-level.invariant.from)) in
+    subst (λ n. c.args.most < sum_from number 0 ((c.loop-level.node - n) + 1)) (sym size) is
