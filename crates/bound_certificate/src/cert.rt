@@ -1,5 +1,6 @@
+use crate::priced::Priced;
 use buffer_windows::BufferWindows;
-use dual_bounds::{Multipliers, Windows};
+use dual_bounds::{Multiplier, Window};
 use list_types::ListOf;
 use version_table::Choice;
 
@@ -10,13 +11,13 @@ pub enum Node {
     /// order, it is fixed to that version.
     Branch { unit: u32 },
     /// The bound of these multipliers.
-    Dual { with: Multipliers },
+    Dual { with: Priced<Multiplier> },
     /// All pictures that have a choice are fixed, and the slot rule schedules that choice or doesn't.
     Run { scheduled: bool },
     /// The bound without multipliers.
     Open,
     /// The bound of these windows.
-    Window { with: Windows },
+    Window { with: Priced<Window> },
     /// The bound of these windows that see the buffers.
     BufferWindow { with: BufferWindows },
 }

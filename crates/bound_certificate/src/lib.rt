@@ -10,11 +10,13 @@ mod cursor;
 mod fault;
 pub mod laws;
 pub mod limits;
+mod priced;
 mod read;
 mod read_node;
 mod write;
 
 pub use cert::{Cert, Node};
 pub use fault::CertFormat;
+pub use priced::{Priced, priced_windows};
 pub use read::read_cert;
 pub use write::write_cert;

@@ -9,11 +9,12 @@ ghost use Rattle.bound_certificate.specs.Spelling.{bytes_of_buffer_window, bytes
 use crate::cert::Node;
 use crate::cursor::{Cursor, number_at};
 use crate::fault::Stop;
+use crate::priced::Priced;
 use crate::read::last_most;
 use buffer_windows::{BufferWindow, BufferWindows};
 use dual_bounds::constants::WINDOWS_MOST;
-use dual_bounds::{Multiplier, Multipliers, Window, Windows};
-use list_types::OutOfMemory;
+use dual_bounds::{Multiplier, Window};
+use list_types::{ListOf, OutOfMemory};
 use std::alloc::Global;
 
 /// Bytes of a multiplier: its due time and its lambda.
@@ -114,7 +115,7 @@ fn read_body(alloc: Global, cursor: &mut Cursor<'_>, kind: Kind) -> Result<Node,
             })
         }
         Kind::Dual => Ok(Node::Dual {
-            with: read_multipliers(cursor)?,
+            with: read_multipliers(alloc, cursor)?,
         }),
         Kind::Run => {
             let flag = cursor.byte(0, 1)?;
@@ -124,7 +125,7 @@ fn read_body(alloc: Global, cursor: &mut Cursor<'_>, kind: Kind) -> Result<Node,
         }
         Kind::Open => Ok(Node::Open),
         Kind::Window => Ok(Node::Window {
-            with: read_windows(cursor)?,
+            with: read_windows(alloc, cursor)?,
         }),
         Kind::BufferWindow => Ok(Node::BufferWindow {
             with: read_buffer_windows(alloc, cursor)?,
@@ -144,7 +145,7 @@ fn read_count(cursor: &mut Cursor<'_>) -> Result<usize, Stop>
 }
 
 /// Counted multipliers.
-fn read_multipliers(cursor: &mut Cursor<'_>) -> Result<Multipliers, Stop>
+fn read_multipliers(alloc: Global, cursor: &mut Cursor<'_>) -> Result<Priced<Multiplier>, Stop>
     ensures few { IfOk result (λ priced. length priced.items ≤ WINDOWS_MOST) }
     ensures stated { IfOk result (λ priced. AllByRecursion IsStatedMultiplier priced.items) }
     ensures next { IfOk result (λ priced. cursor.old ≡ 0 ∷ length priced.items ∷ flat_map bytes_of_multiplier priced.items ++ cursor.new) }
@@ -152,22 +153,26 @@ fn read_multipliers(cursor: &mut Cursor<'_>) -> Result<Multipliers, Stop>
 {
     let count = read_count(cursor)?;
     let block = cursor.block(MULTIPLIER_BYTES * count)?;
-    Ok(multipliers_in(block, count))
+    Ok(multipliers_in(alloc, block, count)?)
 }
 
 /// The multipliers in these bytes.
-fn multipliers_in(block: &[u8], count: usize) -> Multipliers
+fn multipliers_in(
+    alloc: Global,
+    block: &[u8],
+    count: usize,
+) -> Result<Priced<Multiplier>, OutOfMemory>
     requires size { length block.now ≡ MULTIPLIER_BYTES * count }
     requires few { count ≤ WINDOWS_MOST }
-    ensures count { length result.items ≡ count }
-    ensures stated { AllByRecursion IsStatedMultiplier result.items }
-    ensures bytes { flat_map bytes_of_multiplier result.items ≡ block.now }
+    ensures count { IfOk result (λ priced. length priced.items ≡ count) }
+    ensures stated { IfOk result (λ priced. AllByRecursion IsStatedMultiplier priced.items) }
+    ensures bytes { IfOk result (λ priced. flat_map bytes_of_multiplier priced.items ≡ block.now) }
 {
-    let mut multipliers = Multipliers::new();
+    let mut multipliers = ListOf::from_vec(Vec::with_capacity(alloc, count)?);
     for i in 0..count {
-        multipliers.push(multiplier_at(block, MULTIPLIER_BYTES * i));
+        multipliers.push(multiplier_at(block, MULTIPLIER_BYTES * i))?;
     }
-    multipliers
+    Ok(Priced::from_list(multipliers))
 }
 
 /// The multiplier in the bytes from a place on.
@@ -183,7 +188,7 @@ fn multiplier_at(bytes: &[u8], place: usize) -> Multiplier
 }
 
 /// Counted windows.
-fn read_windows(cursor: &mut Cursor<'_>) -> Result<Windows, Stop>
+fn read_windows(alloc: Global, cursor: &mut Cursor<'_>) -> Result<Priced<Window>, Stop>
     ensures few { IfOk result (λ priced. length priced.items ≤ WINDOWS_MOST) }
     ensures stated { IfOk result (λ priced. AllByRecursion IsStatedWindow priced.items) }
     ensures next { IfOk result (λ priced. cursor.old ≡ 0 ∷ length priced.items ∷ flat_map bytes_of_window priced.items ++ cursor.new) }
@@ -191,22 +196,22 @@ fn read_windows(cursor: &mut Cursor<'_>) -> Result<Windows, Stop>
 {
     let count = read_count(cursor)?;
     let block = cursor.block(WINDOW_BYTES * count)?;
-    Ok(windows_in(block, count))
+    Ok(windows_in(alloc, block, count)?)
 }
 
 /// The windows in these bytes.
-fn windows_in(block: &[u8], count: usize) -> Windows
+fn windows_in(alloc: Global, block: &[u8], count: usize) -> Result<Priced<Window>, OutOfMemory>
     requires size { length block.now ≡ WINDOW_BYTES * count }
     requires few { count ≤ WINDOWS_MOST }
-    ensures count { length result.items ≡ count }
-    ensures stated { AllByRecursion IsStatedWindow result.items }
-    ensures bytes { flat_map bytes_of_window result.items ≡ block.now }
+    ensures count { IfOk result (λ priced. length priced.items ≡ count) }
+    ensures stated { IfOk result (λ priced. AllByRecursion IsStatedWindow priced.items) }
+    ensures bytes { IfOk result (λ priced. flat_map bytes_of_window priced.items ≡ block.now) }
 {
-    let mut windows = Windows::new();
+    let mut windows = ListOf::from_vec(Vec::with_capacity(alloc, count)?);
     for i in 0..count {
-        windows.push(window_at(block, WINDOW_BYTES * i));
+        windows.push(window_at(block, WINDOW_BYTES * i))?;
     }
-    windows
+    Ok(Priced::from_list(windows))
 }
 
 /// The window in the bytes from a place on.

@@ -6,10 +6,12 @@ use Rattle.version_table.specs.declared.table.Unit.{Unit as CodedUnit}
 use Rattle.version_table.specs.declared.table.Table.{Table}
 use Rattle.version_table.specs.Table.{units_of}
 use Rattle.bound_certificate.specs.declared.cert.Node.{Node}
+use Rattle.bound_certificate.specs.declared.cert.Node.TheVariants.{Open}
 use Rattle.certificate_checker.specs.Shown.{fix, unfixed}
 use Rattle.branch_plan.specs.declared.arena.Link.{Link}
-use Rattle.branch_plan.specs.Private.Forest.{Follows}
-use Rattle.branch_plan.specs.Private.Growth.{ArePaths, AreLinked, link_of, next_of, node_of}
+use Rattle.branch_plan.specs.Private.Forest.{Follows, times_among}
+use Rattle.branch_plan.specs.Private.Growth.{ArePaths, AreLinked, IsOrder, StandOnce, link_of, next_of, node_of}
+use Rattle.branch_plan.proofs.Opens.{self_one}
 
 -- ---- one pass up
 -- what is fixed so far is what the whole path fixes, and where nothing is, the rest of the path says it
@@ -108,38 +110,72 @@ all_passed table links fixed at number linked at_is within size passed path are 
     covers_all table fixed (path at) (path number) (ap path at_is ∙ are.root) (size ∙ sym (path_long table links path linked are number within)) (passed path are)
 
 -- ---- in order
--- what is written, and the nodes from one on, are all
-pub record IsWritten (nodes : List Node) (links : List Link) (written : List Node) (at count : ℕ) (ids : List ℕ) : Type 0 where
+-- what is written, and the nodes from one on, are all; those are still where they were, and each is once among the rest
+pub record IsWritten (nodes : List Node) (links : List Link) (left written : List Node) (at count : ℕ) (ids : List ℕ) : Type 0 where
   pub rest : List ℕ
   pub is : written ++ map (node_of nodes) rest ≡ map (node_of nodes) ids
   pub follows : Follows (next_of links) (length nodes) at rest
-  pub left : length rest + count ≡ length nodes
+  pub more : length rest + count ≡ length nodes
+  pub size : length left ≡ length nodes
+  pub once : StandOnce (length nodes) rest
+  pub intact : (j : ℕ) → 0 < times_among j rest → node_of left j ≡ node_of nodes j
 
-written_more : (nodes : List Node) (links : List Link) (written : List Node) (at count : ℕ) (ids rest : List ℕ) → count < length nodes
-    → written ++ map (node_of nodes) rest ≡ map (node_of nodes) ids → Follows (next_of links) (length nodes) at rest → length rest + count ≡ length nodes
-    → (at < length nodes) × IsWritten nodes links (written ++ node_of nodes at ∷ []) (next_of links at) (count + 1) ids
-written_more nodes links written at count ids [] within is follows left = absurd (omega (arith, within, left))
-written_more nodes links written at count ids (x ∷ rest) within is follows left = (
-  omega (arith, follows.0, follows.1),
-  record {
-    rest = rest;
-    is =
-        append_assoc written (node_of nodes at ∷ []) (map (node_of nodes) rest)
-        ∙ ap (λ (i : ℕ). written ++ node_of nodes i ∷ map (node_of nodes) rest) follows.0 ∙ is;
-    follows = subst (λ (i : ℕ). Follows (next_of links) (length nodes) (next_of links i) rest) (sym follows.0) follows.2;
-    left = omega (arith, left);
-  },
-)
+pub none_written : (nodes : List Node) (links : List Link) (ids : List ℕ) → IsOrder nodes links ids → StandOnce (length nodes) ids → IsWritten nodes links nodes [] 0 0 ids
+none_written nodes links ids order once = record {
+  rest = ids;
+  is = refl;
+  follows = order.0;
+  more = omega (arith, order.1);
+  size = refl;
+  once = once;
+  intact = λ j there. refl;
+}
 
-pub one_written : (nodes : List Node) (links : List Link) (written : List Node) (at count : ℕ) (ids : List ℕ) → count < length nodes → IsWritten nodes links written at count ids
-    → (at < length nodes) × IsWritten nodes links (written ++ node_of nodes at ∷ []) (next_of links at) (count + 1) ids
-one_written nodes links written at count ids within is = written_more nodes links written at count ids is.rest within is.is is.follows is.left
+times_first : (x : ℕ) (rest : List ℕ) → times_among x (x ∷ rest) ≡ suc (times_among x rest)
+times_first x rest = omega (arith, self_one x x refl)
+
+times_later : (j x : ℕ) (rest : List ℕ) → times_among j rest ≤ times_among j (x ∷ rest)
+times_later j x rest = omega arith
+
+once_first : (count x : ℕ) (rest : List ℕ) → x < count → StandOnce count (x ∷ rest) → times_among x rest ≡ 0
+once_first count x rest within once = omega (arith, times_first x rest, once x within)
+
+apart_from : (j x : ℕ) (rest : List ℕ) → times_among x rest ≡ 0 → 0 < times_among j rest → j ≢ x
+apart_from j x rest none some same = omega (arith, some, none, ap (λ (n : ℕ). times_among n rest) same)
+
+written_more : (nodes : List Node) (links : List Link) (left written : List Node) (at count : ℕ) (ids rest : List ℕ) → count < length nodes
+    → written ++ map (node_of nodes) rest ≡ map (node_of nodes) ids → Follows (next_of links) (length nodes) at rest → length rest + count ≡ length nodes → length left ≡ length nodes
+    → StandOnce (length nodes) rest → ((j : ℕ) → 0 < times_among j rest → node_of left j ≡ node_of nodes j)
+    → (at < length nodes) × (node_of left at ≡ node_of nodes at)
+    × IsWritten nodes links (set left at Open) (written ++ node_of nodes at ∷ []) (next_of links at) (count + 1) ids
+written_more nodes links left written at count ids [] within is follows more size once intact = absurd (omega (arith, within, more))
+written_more nodes links left written at count ids (x ∷ rest) within is follows more size once intact =
+    let none = once_first (length nodes) x rest follows.1 once in (
+      omega (arith, follows.0, follows.1),
+      intact at (subst (λ (i : ℕ). 0 < times_among i (x ∷ rest)) (sym follows.0) (omega (arith, times_first x rest))),
+      record {
+        rest = rest;
+        is =
+            append_assoc written (node_of nodes at ∷ []) (map (node_of nodes) rest)
+            ∙ ap (λ (i : ℕ). written ++ node_of nodes i ∷ map (node_of nodes) rest) follows.0 ∙ is;
+        follows = subst (λ (i : ℕ). Follows (next_of links) (length nodes) (next_of links i) rest) (sym follows.0) follows.2;
+        more = omega (arith, more);
+        size = length-set left at Open ∙ size;
+        once = λ j low. omega (arith, times_later j x rest, once j low);
+        intact = λ j there.
+            get_or-set_other left at j Open Open (λ same. apart_from j x rest none there (same ∙ follows.0)) ∙ intact j (omega (arith, there, times_later j x rest));
+      },
+    )
+
+pub one_written : (nodes : List Node) (links : List Link) (left written : List Node) (at count : ℕ) (ids : List ℕ) → count < length nodes → IsWritten nodes links left written at count ids
+    → (at < length nodes) × (node_of left at ≡ node_of nodes at) × IsWritten nodes links (set left at Open) (written ++ node_of nodes at ∷ []) (next_of links at) (count + 1) ids
+one_written nodes links left written at count ids within is = written_more nodes links left written at count ids is.rest within is.is is.follows is.more is.size is.once is.intact
 
 all_written_in : (nodes : List Node) (written : List Node) (count : ℕ) (ids rest : List ℕ) → length nodes ≤ count → written ++ map (node_of nodes) rest ≡ map (node_of nodes) ids
     → length rest + count ≡ length nodes → written ≡ map (node_of nodes) ids
-all_written_in nodes written count ids [] past is left = sym (append-nil written) ∙ is
-all_written_in nodes written count ids (x ∷ rest) past is left = absurd (omega (arith, past, left))
+all_written_in nodes written count ids [] past is more = sym (append-nil written) ∙ is
+all_written_in nodes written count ids (x ∷ rest) past is more = absurd (omega (arith, past, more))
 
-pub all_written : (nodes : List Node) (links : List Link) (written : List Node) (at count : ℕ) (ids : List ℕ) → length nodes ≤ count → IsWritten nodes links written at count ids
+pub all_written : (nodes : List Node) (links : List Link) (left written : List Node) (at count : ℕ) (ids : List ℕ) → length nodes ≤ count → IsWritten nodes links left written at count ids
     → written ≡ map (node_of nodes) ids
-all_written nodes links written at count ids past is = all_written_in nodes written count ids is.rest past is.is is.left
+all_written nodes links left written at count ids past is = all_written_in nodes written count ids is.rest past is.is is.more

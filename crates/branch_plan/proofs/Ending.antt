@@ -22,9 +22,9 @@ use Rattle.branch_plan.specs.declared.found.Found.{Found}
 use Rattle.branch_plan.specs.declared.known.Known.{Known}
 use Rattle.branch_plan.specs.Tree.{HasLeaf}
 use Rattle.branch_plan.specs.Private.Branching.{Ends, IsGrown, IsOpenAt, IsSettledIn, IsSpentAt, IsTaken, IsTree}
-use Rattle.branch_plan.specs.Private.Forest.{Forest, no_tree, leaf_at, branch_at, ids_then, least_shown, occurs}
+use Rattle.branch_plan.specs.Private.Forest.{Forest, no_tree, leaf_at, branch_at, ids_then, least_shown, occurs, times_among}
 use Rattle.branch_plan.specs.Private.Found.{IsFounded}
-use Rattle.branch_plan.specs.Private.Growth.{IsOrder, node_of}
+use Rattle.branch_plan.specs.Private.Growth.{IsOrder, StandOnce, node_of}
 use Rattle.branch_plan.specs.Private.Known.{IsKnown}
 use Rattle.branch_plan.specs.Private.Leaves.{IsFreeUnit}
 use Rattle.branch_plan.proofs.Forests.{at_most_least, has_leaf, in_branch, in_leaf, least_at_most, tree_walks}
@@ -93,6 +93,15 @@ each_there j (branch_at id unit below more) behind some =
     (λ under. contains_behind j id all (inr (each_there j below (ids_then more behind) under)))
     (λ later. contains_behind j id all (inr (there_behind j below (ids_then more behind) (each_there j more behind later))))
 
+pub times_of : (j : ℕ) (trees : Forest) (behind : List ℕ) → times_among j (ids_then trees behind) ≡ occurs j trees + times_among j behind
+times_of j no_tree behind = omega arith
+times_of j (leaf_at id more) behind = omega (arith, times_of j more behind)
+times_of j (branch_at id unit below more) behind = omega (arith, times_of j below (ids_then more behind), times_of j more behind)
+
+tree_once : (table : Table) (nodes : List Node) (links : List Link) (path : ℕ → List (Option ℕ)) (tree : Forest) → IsTree table nodes links path tree
+    → StandOnce (length nodes) (ids_then tree [])
+tree_once table nodes links path tree is j low = omega (arith, times_of j tree [], is.once j low)
+
 -- ---- the bound is the distortion
 settled_best : (table : Table) (nodes : List Node) (path : ℕ → List (Option ℕ)) (leaves : List (Reverse (ℕ × ℕ))) (distortion j : ℕ)
     → ((leaf : Reverse (ℕ × ℕ)) → Contains leaves leaf → distortion ≤ leaf.0.0) → IsSettledIn table nodes path leaves distortion j
@@ -117,6 +126,7 @@ ends_best table most root time arena known found leaves valid grown is root_is f
       ids = ids;
       there = λ j low. each_there j grown.tree [] (omega (arith, grown.is.once j low));
       order = tree_order table nodes arena.links.items grown.path grown.tree grown.is;
+      once = tree_once table nodes arena.links.items grown.path grown.tree grown.is;
       as_many = grown.is.as_many;
       nodes = few;
       each = grown.each;
@@ -182,6 +192,7 @@ ends_spent table most bound number unit growth valid taken free past =
       ids = ids;
       there = λ j low. each_there j tree [] (omega (arith, grown.is.once j low));
       order = order;
+      once = tree_once table nodes links path tree grown.is;
       as_many = grown.is.as_many;
       nodes = taken.nodes;
       each = grown.each;

@@ -1,12 +1,13 @@
 ghost use Rattle.std.specs.Prelude.{◌≡◌, ◌≢◌, ◌<◌, ℕ, List, length, map, slice_index_or, slice_set, Option, Some, None, IfOk};
 ghost use Rattle.version_table.specs.Table.{units_of};
-ghost use Rattle.branch_plan.specs.Private.Growth.{ArePaths, AreLinked, IsOrder, node_of};
+ghost use Rattle.bound_certificate.specs.declared.cert.Node.TheVariants.{Open};
+ghost use Rattle.branch_plan.specs.Private.Growth.{ArePaths, AreLinked, IsOrder, StandOnce, node_of};
 
 use bound_certificate::Node;
-use buffer_windows::BufferWindows;
-use dual_bounds::{Fixed, Multipliers, copied, nothing_fixed};
+use dual_bounds::{Fixed, nothing_fixed};
 use list_types::{ListOf, OutOfMemory};
 use std::alloc::Global;
+use std::mem;
 use version_table::Table;
 
 /// Where a node hangs in its tree.
@@ -65,50 +66,33 @@ fn fix_where_free(fixed: &mut Vec<Option<u8>>, unit: usize, k: u8)
     }
 }
 
-/// The nodes in preorder.
-pub(crate) fn in_order(alloc: Global, arena: &Arena) -> Result<ListOf<Node>, OutOfMemory>
-    requires links { length arena.now.links.items ≡ length arena.now.nodes.items }
-    requires order { (ids : List ℕ) × IsOrder arena.now.nodes.items arena.now.links.items ids }
-    ensures { IfOk result (λ nodes. (ids : List ℕ) → IsOrder arena.now.nodes.items arena.now.links.items ids → nodes ≡ map (node_of arena.now.nodes.items) ids) }
+/// The nodes in preorder, moved. Fails only for want of memory.
+pub(crate) fn in_order(alloc: Global, arena: Arena) -> Result<ListOf<Node>, OutOfMemory>
+    requires links { length arena.links.items ≡ length arena.nodes.items }
+    requires order { (ids : List ℕ) × IsOrder arena.nodes.items arena.links.items ids × StandOnce (length arena.nodes.items) ids }
+    ensures { IfOk result (λ nodes. (ids : List ℕ) → IsOrder arena.nodes.items arena.links.items ids → StandOnce (length arena.nodes.items) ids
+        → nodes ≡ map (node_of arena.nodes.items) ids) }
 {
-    let mut nodes = ListOf::new(alloc);
+    let Arena {
+        nodes: mut left,
+        links,
+    } = arena;
+    let count = left.len();
+    let mut nodes = ListOf::from_vec(Vec::with_capacity(alloc, count)?);
     let mut at = 0;
-    for _taken in 0..arena.nodes.len() {
-        nodes.push(copy_of(alloc, &arena.nodes[at])?)?;
-        at = arena.links[at].next as usize;
+    for _taken in 0..count {
+        let node = take_node(&mut left, at);
+        nodes.push(node)?;
+        at = links[at].next as usize;
     }
     Ok(nodes)
 }
 
-/// The same node. Fails only for want of memory.
-fn copy_of(alloc: Global, node: &Node) -> Result<Node, OutOfMemory>
-    ensures { IfOk result (λ copy. copy ≡ node.now) }
+/// Takes the node of a number, and leaves one without windows in its place.
+fn take_node(nodes: &mut Vec<Node>, number: usize) -> Node
+    requires { number < length nodes.old.items }
+    ensures node { result ≡ node_of nodes.old.items number }
+    ensures left { nodes.new.items ≡ slice_set nodes.old.items number Open }
 {
-    match node {
-        Node::Branch { unit } => Ok(Node::Branch { unit: *unit }),
-        Node::Dual { with } => Ok(Node::Dual {
-            with: copied_multipliers(with),
-        }),
-        Node::Run { scheduled } => Ok(Node::Run {
-            scheduled: *scheduled,
-        }),
-        Node::Open => Ok(Node::Open),
-        Node::Window { with } => Ok(Node::Window {
-            with: copied(with.as_slice()),
-        }),
-        Node::BufferWindow { with } => Ok(Node::BufferWindow {
-            with: BufferWindows::copied(alloc, with.as_slice())?,
-        }),
-    }
-}
-
-/// The same multipliers.
-fn copied_multipliers(multipliers: &Multipliers) -> Multipliers
-    ensures { result ≡ multipliers.now }
-{
-    let mut copy = Multipliers::new();
-    for multiplier in multipliers.as_slice() {
-        copy.push(*multiplier);
-    }
-    copy
+    mem::replace(&mut nodes[number], Node::Open)
 }

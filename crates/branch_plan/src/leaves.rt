@@ -22,7 +22,7 @@ use crate::apart::{ApartUnit, costs_apart};
 use crate::changes::unit_at;
 use crate::found::seen_bound;
 use crate::known::{Known, better};
-use bound_certificate::Node;
+use bound_certificate::{Node, priced_windows};
 use buffer_windows::BufferWindows;
 use dual_bounds::{Fixed, Windows, bound_of, window_value};
 use list_types::{ListOf, OutOfMemory};
@@ -205,7 +205,7 @@ fn priced_leaf(
 {
     match seen_bound(table, fixed, buffers, asked.nodes) {
         Some(bound) => closer_leaf(alloc, table, known, fixed, windows, buffers, asked, bound),
-        None => Ok(time_leaf(table, known, fixed, windows, asked.nodes)),
+        None => time_leaf(alloc, table, known, fixed, &windows, asked.nodes),
     }
 }
 
@@ -241,7 +241,7 @@ fn closer_leaf(
         let leaf = seen_leaf(alloc, known, buffers, bound)?;
         Ok(leaf)
     } else {
-        Ok(time_leaf(table, known, fixed, windows, asked.nodes))
+        time_leaf(alloc, table, known, fixed, &windows, asked.nodes)
     }
 }
 
@@ -272,23 +272,31 @@ fn seen_leaf(
     })
 }
 
-/// The leaf with windows of time.
-fn time_leaf(table: &Table, known: Known, fixed: &Fixed, windows: Windows, nodes: u32) -> Leaf
+/// The leaf with windows of time. Fails only for want of memory.
+fn time_leaf(
+    alloc: Global,
+    table: &Table,
+    known: Known,
+    fixed: &Fixed,
+    windows: &Windows,
+    nodes: u32,
+) -> Result<Leaf, OutOfMemory>
     requires valid { IsValidTable table.now }
     requires known { IsKnown table.now known }
     requires fixed { FixesVersions table.now fixed.now }
-    requires windows { AreSearched windows.items }
-    requires few_windows { NODES_WITH_MANY_WINDOWS_MOST < nodes → length windows.items ≤ FEW_WINDOWS_MOST }
+    requires windows { AreSearched windows.now.items }
+    requires few_windows { NODES_WITH_MANY_WINDOWS_MOST < nodes → length windows.now.items ≤ FEW_WINDOWS_MOST }
     requires free { (unit : ℕ) × IsFreeUnit table.now fixed.now unit }
-    ensures leaf { IsLeafOn table.now nodes fixed.now known.distortion result }
-    ensures floor { IsNoLower (bound_of_value (value_of_windows table.now fixed.now windows.items)) result.bound }
+    ensures leaf { IfOk result (IsLeafOn table.now nodes fixed.now known.distortion) }
+    ensures floor { IfOk result (λ leaf. IsNoLower (bound_of_value (value_of_windows table.now fixed.now windows.now.items)) leaf.bound) }
 {
-    let bound = bound_below(bound_on(table, fixed, &windows), known.distortion);
-    Leaf {
-        node: Node::Window { with: windows },
+    let with = priced_windows(alloc, windows.as_slice())?;
+    let bound = bound_below(bound_on(table, fixed, windows), known.distortion);
+    Ok(Leaf {
+        node: Node::Window { with },
         bound,
         known,
-    }
+    })
 }
 
 /// The bound of windows where these versions are fixed.

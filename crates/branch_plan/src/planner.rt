@@ -118,13 +118,13 @@ pub fn plan(
     let relaxed = relaxation.as_ref();
     let windows = found_windows(alloc, table, relaxed, &fixed, nodes)?;
     let ended = branched(alloc, table, relaxed, &mut run, best, windows, nodes)?;
-    let tree = in_order(alloc, &ended.arena)?;
     let Ended {
-        arena: _,
+        arena,
         bound,
         known: first,
         found,
     } = ended;
+    let tree = in_order(alloc, arena)?;
     let owing = with_found(owing, first, 0);
     let known = after_owed(table, &mut run, debt, owing);
     let search = ended_by(bound, known.distortion);

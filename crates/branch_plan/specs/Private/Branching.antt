@@ -25,7 +25,7 @@ use Rattle.branch_plan.specs.Plan.{BoundsAll}
 use Rattle.branch_plan.specs.Bound.{bound_where_few}
 use Rattle.branch_plan.specs.Tree.{IsSpent}
 use Rattle.branch_plan.specs.Private.Forest.{Follows, Forest, Stands, ids_then, occurs, size, width}
-use Rattle.branch_plan.specs.Private.Growth.{ArePaths, AreLinked, IsOrder, IsOrdered, link_of, next_of, node_of}
+use Rattle.branch_plan.specs.Private.Growth.{ArePaths, AreLinked, IsOrder, IsOrdered, StandOnce, link_of, next_of, node_of}
 use Rattle.branch_plan.specs.Private.Known.{IsKnown}
 use Rattle.branch_plan.specs.Private.Leaves.{IsFreeUnit, IsLeafOn, MayBranch, MayStand}
 use Rattle.branch_plan.specs.Private.Found.{AreSearchedIn, EachBranchFits, IsFounded, IsNoLower}
@@ -104,6 +104,7 @@ pub record Ends (table : Table) (most : ℕ) (ended : EndedTree) : Type 0 where
   pub ids : List ℕ
   pub there : (j : ℕ) → j < length ended.arena.nodes.items → Contains ids j
   pub order : IsOrder ended.arena.nodes.items ended.arena.links.items ids
+  pub once : StandOnce (length ended.arena.nodes.items) ids
   pub as_many : length ended.arena.links.items ≡ length ended.arena.nodes.items
   pub nodes : length ended.arena.nodes.items ≤ most
   pub each : (j : ℕ) → j < length ended.arena.nodes.items → MayStand table most (node_of ended.arena.nodes.items j)

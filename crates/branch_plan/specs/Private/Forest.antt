@@ -48,6 +48,11 @@ occurs j no_tree = 0
 occurs j (leaf_at id more) = cond (id == j) 1 0 + occurs j more
 occurs j (branch_at id unit below more) = cond (id == j) 1 0 + (occurs j below + occurs j more)
 
+-- how often a number is among others
+abbrev pub times_among : ℕ → List ℕ → ℕ
+times_among j [] = 0
+times_among j (x ∷ xs) = cond (x == j) 1 0 + times_among j xs
+
 -- how often trees have the leaf of a number
 abbrev pub leaf_occurs : ℕ → Forest → ℕ
 leaf_occurs j no_tree = 0

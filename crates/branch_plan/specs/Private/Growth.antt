@@ -1,5 +1,5 @@
 -- A tree of a search while it grows: its nodes by number, the leaves that may be branched, and what is known of them.
-use Rattle.std.specs.Prelude.{◌≡◌, ℕ, ◌<◌, List, length, slice_index_or, Option}
+use Rattle.std.specs.Prelude.{◌≡◌, ℕ, ◌<◌, ◌≤◌, List, length, slice_index_or, Option}
 use Rattle.std.specs.Ordering.{nat_cmp, ordering_then}
 use Rattle.std.specs.BinaryHeap.{IsHeap}
 use Rattle.std.specs.declared.cmp.Reverse.{Reverse}
@@ -9,7 +9,7 @@ use Rattle.bound_certificate.specs.declared.cert.Node.{Node}
 use Rattle.bound_certificate.specs.declared.cert.Node.TheVariants.{Open}
 use Rattle.certificate_checker.specs.Shown.{fix, unfixed}
 use Rattle.branch_plan.specs.declared.arena.Link.{Link}
-use Rattle.branch_plan.specs.Private.Forest.{Follows}
+use Rattle.branch_plan.specs.Private.Forest.{Follows, times_among}
 
 -- the node of a number
 abbrev pub node_of : List Node → ℕ → Node
@@ -37,6 +37,10 @@ pub record ArePaths (table : Table) (links : List Link) (path : ℕ → List (Op
 -- the numbers of all nodes, each behind the one before it
 abbrev pub IsOrder : List Node → List Link → (ids : List ℕ) → Type 0
 IsOrder nodes links ids = Follows (next_of links) (length nodes) 0 ids × (length ids ≡ length nodes)
+
+-- each of the first so many numbers is once among these at most
+abbrev pub StandOnce : (count : ℕ) → (ids : List ℕ) → Type 0
+StandOnce count ids = (j : ℕ) → j < count → times_among j ids ≤ 1
 
 -- leaves are in a heap by bound and number
 abbrev pub IsOrdered : List (Reverse (ℕ × ℕ)) → Type 0

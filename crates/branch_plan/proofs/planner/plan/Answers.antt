@@ -37,7 +37,7 @@ returns-clause-written c =
     let is = c.in_ok-ended.ensures.ends in
     let known = c.after_owed-known.result in
     let tree : IsCertTree table c.args.nodes ended.found c.in_ok-tree.tree ended.bound ended.known.distortion =
-    cert_tree table c.args.nodes ended c.in_ok-tree.tree is (c.in_ok-tree.ensures is.ids is.order) in
+    cert_tree table c.args.nodes ended c.in_ok-tree.tree is (c.in_ok-tree.ensures is.ids is.order is.once) in
     let cert = cert_of ended.bound known.distortion known.choice c.in_ok-tree.tree in
     writable table c.args.nodes ended.found cert ended.known.distortion c.requires.valid c.requires.some_nodes c.requires.nodes refl tree c.after_owed-known.ensures.known.fits
 
@@ -48,7 +48,7 @@ returns-clause-root c =
     let is = c.in_ok-ended.ensures.ends in
     let known = c.after_owed-known.result in
     let tree : IsCertTree table c.args.nodes ended.found c.in_ok-tree.tree ended.bound ended.known.distortion =
-    cert_tree table c.args.nodes ended c.in_ok-tree.tree is (c.in_ok-tree.ensures is.ids is.order) in
+    cert_tree table c.args.nodes ended c.in_ok-tree.tree is (c.in_ok-tree.ensures is.ids is.order is.once) in
     let cert = cert_of ended.bound known.distortion known.choice c.in_ok-tree.tree in
     tree.shows
 
@@ -59,7 +59,7 @@ returns-clause-faultless c =
     let is = c.in_ok-ended.ensures.ends in
     let known = c.after_owed-known.result in
     let tree : IsCertTree table c.args.nodes ended.found c.in_ok-tree.tree ended.bound ended.known.distortion =
-    cert_tree table c.args.nodes ended c.in_ok-tree.tree is (c.in_ok-tree.ensures is.ids is.order) in
+    cert_tree table c.args.nodes ended c.in_ok-tree.tree is (c.in_ok-tree.ensures is.ids is.order is.once) in
     let cert = cert_of ended.bound known.distortion known.choice c.in_ok-tree.tree in
     let kept = c.after_owed-known.ensures.known in
     let head : IsHeadRight table cert = record { fits = kept.fits; scheduled = kept.scheduled; distortion = kept.distortion } in
@@ -72,7 +72,7 @@ returns-clause-bound c =
     let is = c.in_ok-ended.ensures.ends in
     let known = c.after_owed-known.result in
     let tree : IsCertTree table c.args.nodes ended.found c.in_ok-tree.tree ended.bound ended.known.distortion =
-    cert_tree table c.args.nodes ended c.in_ok-tree.tree is (c.in_ok-tree.ensures is.ids is.order) in
+    cert_tree table c.args.nodes ended c.in_ok-tree.tree is (c.in_ok-tree.ensures is.ids is.order is.once) in
     let cert = cert_of ended.bound known.distortion known.choice c.in_ok-tree.tree in
     faultless_bound table cert c.requires.valid (returns-clause-faultless c)
 
@@ -83,7 +83,7 @@ returns-clause-few_nodes c =
     let is = c.in_ok-ended.ensures.ends in
     let known = c.after_owed-known.result in
     let tree : IsCertTree table c.args.nodes ended.found c.in_ok-tree.tree ended.bound ended.known.distortion =
-    cert_tree table c.args.nodes ended c.in_ok-tree.tree is (c.in_ok-tree.ensures is.ids is.order) in
+    cert_tree table c.args.nodes ended c.in_ok-tree.tree is (c.in_ok-tree.ensures is.ids is.order is.once) in
     let cert = cert_of ended.bound known.distortion known.choice c.in_ok-tree.tree in
     tree.few
 
@@ -94,7 +94,7 @@ returns-clause-few_windows c =
     let is = c.in_ok-ended.ensures.ends in
     let known = c.after_owed-known.result in
     let tree : IsCertTree table c.args.nodes ended.found c.in_ok-tree.tree ended.bound ended.known.distortion =
-    cert_tree table c.args.nodes ended c.in_ok-tree.tree is (c.in_ok-tree.ensures is.ids is.order) in
+    cert_tree table c.args.nodes ended c.in_ok-tree.tree is (c.in_ok-tree.ensures is.ids is.order is.once) in
     let cert = cert_of ended.bound known.distortion known.choice c.in_ok-tree.tree in
     few_windows_in table c.args.nodes ended.found c.in_ok-tree.tree ended.bound ended.known.distortion tree
 
@@ -105,7 +105,7 @@ returns-clause-branches c =
     let is = c.in_ok-ended.ensures.ends in
     let known = c.after_owed-known.result in
     let tree : IsCertTree table c.args.nodes ended.found c.in_ok-tree.tree ended.bound ended.known.distortion =
-    cert_tree table c.args.nodes ended c.in_ok-tree.tree is (c.in_ok-tree.ensures is.ids is.order) in
+    cert_tree table c.args.nodes ended c.in_ok-tree.tree is (c.in_ok-tree.ensures is.ids is.order is.once) in
     let cert = cert_of ended.bound known.distortion known.choice c.in_ok-tree.tree in
     branches_in table c.args.nodes ended.found c.in_ok-tree.tree ended.bound ended.known.distortion tree
 
@@ -116,7 +116,7 @@ returns-clause-spent c =
     let is = c.in_ok-ended.ensures.ends in
     let known = c.after_owed-known.result in
     let tree : IsCertTree table c.args.nodes ended.found c.in_ok-tree.tree ended.bound ended.known.distortion =
-    cert_tree table c.args.nodes ended c.in_ok-tree.tree is (c.in_ok-tree.ensures is.ids is.order) in
+    cert_tree table c.args.nodes ended c.in_ok-tree.tree is (c.in_ok-tree.ensures is.ids is.order is.once) in
     let cert = cert_of ended.bound known.distortion known.choice c.in_ok-tree.tree in
     let kept = c.after_owed-known.ensures.known in
     let under = returns-clause-bound c known.choice kept.fits kept.scheduled in
@@ -139,7 +139,7 @@ returns-clause-tried c =
     let is = c.in_ok-ended.ensures.ends in
     let known = c.after_owed-known.result in
     let tree : IsCertTree table c.args.nodes ended.found c.in_ok-tree.tree ended.bound ended.known.distortion =
-    cert_tree table c.args.nodes ended c.in_ok-tree.tree is (c.in_ok-tree.ensures is.ids is.order) in
+    cert_tree table c.args.nodes ended c.in_ok-tree.tree is (c.in_ok-tree.ensures is.ids is.order is.once) in
     let cert = cert_of ended.bound known.distortion known.choice c.in_ok-tree.tree in
     let windows = c.in_ok-windows.windows.time.items in
     let root = bound_of_value (value_of_windows table (unfixed table) windows) in
@@ -155,7 +155,7 @@ returns-clause-pairs c =
     let is = c.in_ok-ended.ensures.ends in
     let known = c.after_owed-known.result in
     let tree : IsCertTree table c.args.nodes ended.found c.in_ok-tree.tree ended.bound ended.known.distortion =
-    cert_tree table c.args.nodes ended c.in_ok-tree.tree is (c.in_ok-tree.ensures is.ids is.order) in
+    cert_tree table c.args.nodes ended c.in_ok-tree.tree is (c.in_ok-tree.ensures is.ids is.order is.once) in
     let cert = cert_of ended.bound known.distortion known.choice c.in_ok-tree.tree in
     let windows = c.in_ok-windows.windows.time.items in
     let root = bound_of_value (value_of_windows table (unfixed table) windows) in
@@ -204,5 +204,5 @@ returns-clause-reached c =
     let ended = c.in_ok-ended.ended in
     let is = c.in_ok-ended.ensures.ends in
     let tree : IsCertTree table c.args.nodes ended.found c.in_ok-tree.tree ended.bound ended.known.distortion =
-    cert_tree table c.args.nodes ended c.in_ok-tree.tree is (c.in_ok-tree.ensures is.ids is.order) in
+    cert_tree table c.args.nodes ended c.in_ok-tree.tree is (c.in_ok-tree.ensures is.ids is.order is.once) in
     record { time = tree.time; buffers = tree.buffers }
