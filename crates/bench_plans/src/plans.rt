@@ -2,15 +2,18 @@
 //!
 //! The words are the name of a table's file, the nodes and the evaluations. It prints the bound, the plan's distortion and how many nodes
 //! the tree has.
+ghost use Rattle.std.specs.Prelude.{IfOk};
 ghost use Rattle.version_table.specs.Table.{IsValidTable};
+ghost use Rattle.version_table.specs.Text.{Holds, IsTableRead};
 
 use branch_plan::{PlanFault, plan};
+use list_types::ListOf;
 use shelf_io::read_file;
 use shelf_kinds::FileShelf;
 use std::alloc::Global;
 use std::io;
 use version_table::limits::{EVALUATIONS_MOST, NODES_MOST};
-use version_table::{Table, read_table};
+use version_table::{Table, TableFault, read_table};
 
 /// The most bytes that are read of a file.
 const FILE_BYTES: u64 = 1 << 30;
@@ -32,7 +35,7 @@ pub fn work(rt: &HostRuntime, words: &[String]) -> io::Result<()> {
     let Ok(text) = read_file(rt.alloc(), &mut shelf, name.as_str(), FILE_BYTES) else {
         return println!(rt; "no such file");
     };
-    let Ok(table) = read_table(rt.alloc(), text.as_slice()) else {
+    let Ok(table) = table_in(rt.alloc(), text) else {
         return println!(rt; "no table");
     };
     let Ok(came) = planned(
@@ -47,6 +50,13 @@ pub fn work(rt: &HostRuntime, words: &[String]) -> io::Result<()> {
         "bound {}, distortion {}, {} nodes",
         came.bound, came.distortion, came.nodes
     )
+}
+
+/// The table in a text, which is let go before the table is planned.
+fn table_in(alloc: Global, text: ListOf<u8>) -> Result<Table, TableFault>
+    ensures { IfOk result (λ table. IsTableRead text (Holds table)) }
+{
+    read_table(alloc, text.as_slice())
 }
 
 /// The number that a word says, or 0.

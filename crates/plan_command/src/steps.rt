@@ -1,8 +1,9 @@
 //! From the file of a table to the certificate of its plan, step by step.
 
-ghost use Rattle.std.specs.Prelude.{◌≡◌, IfSome};
+ghost use Rattle.std.specs.Prelude.{◌≡◌, IfErr, IfOk, IfSome};
 ghost use Rattle.bound_certificate.specs.Reading.{IsWritable};
 ghost use Rattle.version_table.specs.Table.{IsValidTable};
+ghost use Rattle.version_table.specs.Text.{Holds, IsFaultOf, IsTableRead};
 ghost use Rattle.command_words.specs.Ended.{PerformsOn};
 ghost use Rattle.plan_command.specs.PlanCommand.{HoldsTable, HasPlan, plan_task_of};
 ghost use Rattle.plan_command.specs.Private.Front.{HoldsFront};
@@ -16,6 +17,7 @@ use command_words::{
     Ended, JobRefusal, PlanFiles, Status, end_missing, end_unread, end_unwritten, end_with,
     miss_report, refusal_report,
 };
+use list_types::ListOf;
 use shelf_io::{Fault, Shelf, read_file, write_file};
 use std::alloc::Global;
 use version_table::limits::TABLE_TEXT_MOST;
@@ -26,7 +28,7 @@ pub fn plan_file<K: Shelf>(alloc: Global, files: &PlanFiles<'_>, shelf: &mut K) 
     ensures { PerformsOn K.files K.counts K.asked K.since_fault shelf.old shelf.new (plan_task_of files.now) result }
 {
     match read_file(alloc, shelf, files.table, TABLE_TEXT_MOST as u64) {
-        Ok(text) => plan_text(alloc, files, text.as_slice(), shelf),
+        Ok(text) => plan_text(alloc, files, text, shelf),
         Err(Fault::Failed) => end_unread(alloc, files.table),
         Err(Fault::Missing) => end_missing(alloc, files.table),
         Err(Fault::OutOfMemory) => None,
@@ -37,16 +39,24 @@ pub fn plan_file<K: Shelf>(alloc: Global, files: &PlanFiles<'_>, shelf: &mut K) 
 fn plan_text<K: Shelf>(
     alloc: Global,
     files: &PlanFiles<'_>,
-    text: &[u8],
+    text: ListOf<u8>,
     shelf: &mut K,
 ) -> Option<Ended>
-    requires { HoldsFront (K.files shelf.now) files.now.table.now text.now }
+    requires { HoldsFront (K.files shelf.now) files.now.table.now text }
     ensures { PerformsOn K.files K.counts K.asked K.since_fault shelf.old shelf.new (plan_task_of files.now) result }
 {
-    match read_table(alloc, text) {
+    match table_in(alloc, text) {
         Ok(table) => plan_table(alloc, files, &table, shelf),
         Err(fault) => end_refused_table(alloc, fault),
     }
+}
+
+/// The table in a text, which is let go before the table is planned: beside an hour's table it would take as much again.
+fn table_in(alloc: Global, text: ListOf<u8>) -> Result<Table, TableFault>
+    ensures table { IfOk result (λ table. IsTableRead text (Holds table)) }
+    ensures refusal { IfErr result (IsFaultOf text) }
+{
+    read_table(alloc, text.as_slice())
 }
 
 /// From the table on.

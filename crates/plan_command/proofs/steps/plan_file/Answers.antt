@@ -16,8 +16,8 @@ pub plan_text-requires : goal.plan_text-requires
 plan_text-requires g c =
     let table = c.args.files.now.table.now in
     let found = found_text (g.K.Shelf.files c.args.shelf.now) table c.in-Ok.text (TABLE_TEXT_MOST + 1) c.in-Ok.ensures.length c.in-Ok.ensures.told in
-    subst (λ (told : Option Files). HoldsFront told table c.as_slice.result.now) (sym c.in-Ok.ensures.files)
-    (record { text = found.0; held = found.1; front_is = c.as_slice.ensures ∙ found.2 })
+    subst (λ (told : Option Files). HoldsFront told table c.in-Ok.text) (sym c.in-Ok.ensures.files)
+    (record { text = found.0; held = found.1; front_is = found.2 })
 
 pub returns-in-Ok : goal.returns-in-Ok
 returns-in-Ok g c =
