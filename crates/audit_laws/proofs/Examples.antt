@@ -6,7 +6,7 @@ use Rattle.stream_audit.specs.declared.finding.FaultName.TheVariants.{Full, Late
 use Rattle.stream_audit.specs.Removals.{removed_at}
 use Rattle.time_laws.specs.Clock.{IsFirstShown}
 use Rattle.audit_laws.specs.Found.{IsFullAtMost}
-use Rattle.audit_laws.specs.Kept.{AreOwnUnits}
+use Rattle.audit_laws.specs.Kept.{AreOwnUnits, IsBegun}
 
 -- a PES packet with a header of nine bytes and two bytes behind it
 abbrev packet : PesUnit
@@ -19,11 +19,15 @@ shown = record { first = omega arith; shown = (pos 0, refl) }
 -- a unit of those two bytes that is due at 500 behind a base of 1,000
 unit : AreOwnUnits 100 1000 (record { due = 500; bytes = 2 } ∷ []) (packet ∷ []) (1400 ∷ [])
 unfolding bit bits
-unit = (record { bytes = refl; when = shown; early = omega arith }, tt)
+unit = (record { bytes = refl; when = shown; not_later = omega arith; not_earlier = omega arith }, tt)
 
 -- an audit removes it 1,400 ticks behind the first byte
 removed : removed_at 100 1000 (pos 500) ≡ 1400
 removed = refl
+
+-- so such units begin, with five units of 1/90,000 s
+begins : IsBegun 100 (record { base = 1000; vbv = 112; units = record { due = 500; bytes = 2 } ∷ [] }) 5 1400
+begins = record { stated = refl; removed = refl }
 
 -- with no unit for the packet they are no such units
 none : AreOwnUnits 100 1000 [] (packet ∷ []) (1400 ∷ []) → ⊥

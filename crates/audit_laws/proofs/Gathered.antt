@@ -1,22 +1,25 @@
 -- The bytes of the PES packets of a stream are those of its payloads, where each header is within the payload that it begins in.
-use Rattle.std.proofs.Common.{◌≡◌, ℕ, zero, suc, ◌+◌, ◌-◌, ◌<◌, ◌≤◌, nat_le, nat_lt, min, Bool, true, false, cond, ◌&&◌}
+use Rattle.std.proofs.Common.{◌≡◌, ℕ, zero, suc, ◌+◌, ◌-◌, ◌<◌, ◌≤◌, ◌==◌, nat_le, nat_lt, min, Bool, true, false, cond, if◌then◌else◌, ◌&&◌}
 use Rattle.std.proofs.Common.{List, [], ◌∷◌, ◌++◌, All, length, map, replicate, refl, sym, ap, ap₂, subst, ◌∙◌, arith, length-append}
 use Rattle.std.specs.List.{flat_map, range_with_len, sum_by}
 use Rattle.std.proofs.lemmas.Bool.{le-leb, lt-ltb, ltb-false}
 use Rattle.std.proofs.lemmas.List.{append_assoc, length-drop, replicate-append-replicate}
 use Rattle.std.proofs.lemmas.List.Elements.{All-cons, All-head, All-nil, All-tail}
 use Rattle.std.proofs.lemmas.List.Sums.{sum_by-cons}
-use Rattle.bit_lists.specs.Payload.{CarriedPayload, is_start}
+use Rattle.bit_lists.specs.Payload.{CarriedPayload, Payload, is_start}
 use Rattle.pes_units.specs.PesHeader.{header_length}
 use Rattle.pes_units.specs.PesPackets.{Gathered, gathered, up_to_start}
+use Rattle.ts_packets.specs.Packet.{PacketRecord}
+use Rattle.ts_packets.specs.Carried.{payloads_on}
 use Rattle.tstd_model.specs.declared.decoder_input.PacketPart.{PacketPart}
 use Rattle.tstd_model.specs.declared.decoder_input.PacketPart.TheVariants.{PesHeader, Data}
 use Rattle.ts_demux.specs.declared.demuxed.PesUnit.{PesUnit}
 use Rattle.elementary_streams.specs.Packets.{pes_payload_of as pes_payload}
-use Rattle.stream_audit.specs.PesBytes.{part_at, parts_of_packets}
+use Rattle.stream_audit.specs.PesBytes.{bytes_before, part_at, parts_of_packets}
 use Rattle.clean_laws.specs.Arrivals.{header_bytes}
 use Rattle.pes_walk.proofs.Headers.{header_more}
 use Rattle.audit_laws.proofs.Arrivals.{parts_of_payload}
+use Rattle.audit_laws.proofs.Places.{places_by}
 
 -- ---- PES packets
 
@@ -132,3 +135,49 @@ fits-gathered (first ∷ more) all = by_test (is_start first.payload) refl (fits
         rw is
         (All-cons (λ (bytes : List ℕ). header_length bytes < length bytes) (first.payload.bytes ++ up_to_start more) (bytes_of (gathered more)) (omega (arith, fits, same, size)) rest)
     by_test false is rest = rw is rest
+
+-- what holds of each item of a list that is made of another
+pub of-map : {A B : Type 0} (P : B → Type 0) (f : A → B) (xs : List A) (ys : List B) → map f xs ≡ ys → All P ys → All (λ x. P (f x)) xs
+of-map P f xs ys same all = from xs (subst (All P) (sym same) all)
+  where
+    from : (xs : List _) → All P (map f xs) → All (λ x. P (f x)) xs
+    from [] all = All-nil (λ x. P (f x))
+    from (x ∷ xs) all = All-cons (λ x. P (f x)) x xs (All-head P (f x) (map f xs) all) (from xs (All-tail P (f x) (map f xs) all))
+
+-- ---- what comes before the first PES packet
+
+-- the bytes of payloads before the first in which a PES packet begins
+abbrev pub front : List Payload → List ℕ
+front [] = []
+front (payload ∷ more) = if is_start payload then [] else payload.bytes ++ front more
+
+pub front-is : (carried : List CarriedPayload) → up_to_start carried ≡ front (map (λ (c : CarriedPayload). c.payload) carried)
+front-is [] = refl
+front-is (c ∷ cs) = ap (λ (rest : List ℕ). cond (is_start c.payload) [] (c.payload.bytes ++ rest)) (front-is cs)
+
+pub before-is : (pid from : ℕ) (list : List PacketRecord) → bytes_before (places_by (λ (packet : PacketRecord). packet.pid == pid) from list) ≡ length (front (payloads_on pid list))
+before-is pid from [] = refl
+before-is pid from (packet ∷ more) = by_tests (packet.pid == pid) packet.start (nat_lt 0 (length packet.payload)) refl refl refl (before-is pid (from + 1) more)
+  where
+    none : (bytes : List ℕ) → nat_lt 0 (length bytes) ≡ false → length bytes ≡ 0
+    none [] is = refl
+    none (byte ∷ bytes) is = absurd (let low = ltb-false 0 (suc (length bytes)) is in omega (arith, low))
+
+    no-more : 0 + length (front (payloads_on pid more)) ≡ length (front (payloads_on pid more))
+    no-more = omega arith
+
+    by_tests : (a start some : Bool) → (packet.pid == pid) ≡ a → packet.start ≡ start → nat_lt 0 (length packet.payload) ≡ some
+        → (bytes_before (places_by (λ (packet : PacketRecord). packet.pid == pid) (from + 1) more) ≡ length (front (payloads_on pid more)))
+        → bytes_before (places_by (λ (packet : PacketRecord). packet.pid == pid) from (packet ∷ more)) ≡ length (front (payloads_on pid (packet ∷ more)))
+    by_tests true true true is starts has rest =
+        rw (is, starts, has) (ap (λ (b : Bool). length (cond b [] (packet.payload ++ front (payloads_on pid more)))) (sym has))
+    by_tests true false true is starts has rest =
+        rw (is, starts, has) (ap (λ (n : ℕ). length packet.payload + n) rest ∙ sym (length-append packet.payload (front (payloads_on pid more))))
+    by_tests true true false is starts has rest = rw (is, starts, has) (ap₂ (λ (x y : ℕ). x + y) (none packet.payload has) rest ∙ no-more)
+    by_tests true false false is starts has rest = rw (is, starts, has) (ap₂ (λ (x y : ℕ). x + y) (none packet.payload has) rest ∙ no-more)
+    by_tests false start some is starts has rest = rw is rest
+
+-- a list without items
+pub none-there : (xs : List ℕ) → length xs ≡ 0 → xs ≡ []
+none-there [] is = refl
+none-there (x ∷ xs) is = absurd (omega (arith, is))

@@ -10,12 +10,11 @@ use Rattle.ts_packets.specs.Carried.{payloads_on}
 use Rattle.ts_packets.specs.TransportStream.{packets}
 use Rattle.version_table.specs.declared.table.ProgramRow.{ProgramRow}
 use Rattle.version_table.specs.declared.table.Table.{Table}
-use Rattle.version_table.specs.declared.table.Unit.{Unit as CodedUnit}
 use Rattle.version_table.specs.Table.{IsValidProgram}
 use Rattle.slot_rule.specs.declared.queued_packet.QueuedPacket.{QueuedPacket}
 use Rattle.slot_rule.specs.declared.slot_list.SlotList.{SlotList}
 use Rattle.slot_rule.specs.declared.queue_kind.QueueKind.TheVariants.{Video}
-use Rattle.slot_rule.specs.Queues.{video_queue}
+use Rattle.slot_rule.specs.Queues.{audio_of, video_queue}
 use Rattle.slot_rule.specs.Sent.{choice_from, video_number}
 use Rattle.layer_laws.specs.Counted.{AreCounted}
 use Rattle.mux_writer.specs.Layout.{map_pid, video_pid}
@@ -29,7 +28,7 @@ use Rattle.version_source.specs.Pieces.{pieces_of, stream_items, video_items}
 use Rattle.program_table.specs.Table.{IsTableOf}
 use Rattle.job_stream.specs.Stream.{IsStreamIn, layout_of}
 use Rattle.clean_laws.specs.Arrivals.{header_bytes, section_arrivals}
-use Rattle.clean_laws.specs.Clean.{IsCleanStream}
+use Rattle.clean_laws.specs.Clean.{IsCleanOn, IsCleanStream}
 use Rattle.clean_laws.proofs.Cleanness.{IsMade, IsStream, headers_of, payloads-of, video-clean, video-pieces}
 use Rattle.clean_laws.proofs.Brought.{HasItsPiece}
 use Rattle.clean_laws.proofs.Headers.{zip-all, zip-at}
@@ -41,6 +40,7 @@ use Rattle.clean_laws.proofs.Stream.{IsReady, stream-clean, stream-read}
 use Rattle.program_table.proofs.Rows.{HaveOneList}
 use Rattle.time_laws.specs.Carried.{CarriesTable, CarriesTimes}
 use Rattle.audit_laws.specs.Written.{IsFoundClean}
+use Rattle.audit_laws.proofs.Axis.{HasAxis}
 use Rattle.audit_laws.proofs.Parsed.{IsTakenAt}
 use Rattle.audit_laws.proofs.Program.{ProgramLaws, found-clean}
 
@@ -100,9 +100,10 @@ module _ (job : Job) (programs : List Program) (table : Table) (choice : List �
 pub written-clean : ProgramLaws → (job : Job) (programs : List Program) (table : Table) (choice : List ℕ) (slots : SlotList) (of : IsTableOf job programs table)
     (is : IsReady job programs table choice slots of) → HaveOneList → (stream numbers : List ℕ) → IsStreamIn job programs choice slots stream → length stream ≡ 188 * slots.slots
     → ((pid : ℕ) → pid ≢ 8191 → AreCounted pid (output_packets (layout_of job programs) job.slot (pieces_of (stream_items programs of.versions choice)) slots.rows))
-    → CarriesTable table choice numbers stream → (place number : ℕ) → slice_get numbers place ≡ Some number → IsTakenAt stream place number → length stream ≤ 536870912
-    → All (λ (row : ProgramRow). All (λ (unit : CodedUnit). unit.due < 1288490188800) row.units) table.programs → IsFoundClean stream table.slot number
-written-clean laws job programs table choice slots of is one_list stream numbers in_slots size counted carried place number there taken short soon =
+    → CarriesTable table choice numbers stream
+    → ((place number : ℕ) (row : ProgramRow) → slice_get numbers place ≡ Some number → slice_get table.programs place ≡ Some row → HasAxis stream number row)
+    → (place number : ℕ) → slice_get numbers place ≡ Some number → IsTakenAt stream place number → length stream ≤ 536870912 → IsFoundClean stream table.slot number
+written-clean laws job programs table choice slots of is one_list stream numbers in_slots size counted carried axes place number there taken short =
     found-clean laws stream list table.slot place number row (choice_from table.programs place choice)
     (record {
       read = read;
@@ -117,7 +118,10 @@ written-clean laws job programs table choice slots of is one_list stream numbers
       sections = λ fault has.
           clean.sections place within fault (subst (λ (l : List PacketRecord). IsFault table.slot System (section_arrivals (map_pid place) l) [] fault) (sym same) has);
       rise = valid.dues;
-      soon = soon-units;
+      axis = axes place number row there found;
+      few_audios = valid.few_audios;
+      audios_clean = λ audio packets stands.
+          subst (λ (l : List PacketRecord). IsCleanOn table.slot (video_pid place + 1 + audio) (audio_of packets) l) same (clean.audios place audio row packets found stands);
     })
   where
     list : List PacketRecord
@@ -143,6 +147,3 @@ written-clean laws job programs table choice slots of is one_list stream numbers
 
     valid : IsValidProgram table.slot row
     valid = All-get_or (IsValidProgram table.slot) table.programs place no_row within is.made.valid.programs
-
-    soon-units : All (λ (unit : CodedUnit). unit.due < 1288490188800) row.units
-    soon-units = All-get_or (λ (row : ProgramRow). All (λ (unit : CodedUnit). unit.due < 1288490188800) row.units) table.programs place no_row within soon

@@ -1,7 +1,12 @@
 pub mod Arrivals
+pub mod Audio
+pub mod Axis
+pub mod Begun
+pub mod Brought
 pub mod Clock
 mod Examples
 pub mod Found
+pub mod Frames
 pub mod Gathered
 pub mod Headers
 pub mod Job

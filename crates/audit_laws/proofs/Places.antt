@@ -190,3 +190,14 @@ module _ (laws : PacketLaws) (file : List ℕ) (list : List PacketRecord) (read 
       counted-either pid true b is has passes = subst (λ (p : ℕ). AreCounted p list) (sym (eqb-true pid one is)) counted
       counted-either pid false true is has passes = subst (λ (p : ℕ). AreCounted p list) (sym (eqb-true pid other has)) also
       counted-either pid false false is has passes = absurd cc
+
+  -- what a PID carries
+  pub carried-are : (pid : ℕ) → AreCounted pid list → map (λ (c : CarriedPayload). c.payload) (carried (pid_pieces file pid 0 (piece_count file))) ≡ payloads_on pid list
+  carried-are pid counted =
+      ap (λ (n : ℕ). map (λ (c : CarriedPayload). c.payload) (carried (pid_pieces file pid 0 n))) (as-many file list read)
+      ∙ laws.carries file list pid 0 (length list) read counted (omega arith) (omega arith)
+      ∙ ap (λ (n : ℕ). payloads_on pid (take n list)) (let e : length list - 0 ≡ length list = omega arith in e) ∙ ap (payloads_on pid) (take-all list)
+    where
+      take-all : (xs : List PacketRecord) → take (length xs) xs ≡ xs
+      take-all [] = refl
+      take-all (x ∷ xs) = ap (λ (ys : List PacketRecord). x ∷ ys) (take-all xs)

@@ -1,20 +1,21 @@
 -- A program of a stream that is clean by its own times: what an audit finds on it.
 use Rattle.std.proofs.Common.{◌≡◌, ◌≢◌, ℕ, suc, ◌+◌, ◌*◌, ◌<◌, ◌≤◌, ◌==◌, ◌||◌, Bool, true, false, List}
 use Rattle.std.proofs.Common.{[], ◌∷◌, ◌++◌, All, length, map, Option, Some, None, refl, sym, ap, subst, ◌∙◌, arith, inl, inr}
+use Rattle.std.specs.Prelude.{slice_get}
 use Rattle.std.specs.List.{range_with_len}
 use Rattle.std.specs.List.Sorted.{IsStrictlyIncreasing}
 use Rattle.std.proofs.lemmas.Bool.{eqb-true}
 use Rattle.std.proofs.lemmas.List.{length-map}
-use Rattle.std.proofs.lemmas.List.Elements.{All-map}
 use Rattle.std.proofs.lemmas.Option.{none-some, same_Some}
 use Rattle.bit_lists.specs.Payload.{Payload}
 use Rattle.ts_packets.specs.Packet.{PacketRecord}
 use Rattle.ts_packets.specs.TransportStream.{is_of_pid, packets, piece_at, piece_count, pid_pieces}
 use Rattle.ts_packets.specs.Carried.{payloads_on, pid_fault}
 use Rattle.psi_tables.specs.declared.stream.Stream.{Stream}
+use Rattle.version_table.specs.declared.table.AudioPacket.{AudioPacket}
 use Rattle.version_table.specs.declared.table.Unit.{Unit as CodedUnit}
 use Rattle.version_table.specs.declared.table.ProgramRow.{ProgramRow}
-use Rattle.slot_rule.specs.Queues.{video_queue}
+use Rattle.slot_rule.specs.Queues.{audio_of, video_queue}
 use Rattle.tstd_model.specs.declared.decoder_input.BufferKind.TheVariants.{System}
 use Rattle.tstd_model.specs.declared.fault.TstdFault.{TstdFault}
 use Rattle.tstd_model.specs.Faults.{IsFault}
@@ -23,7 +24,7 @@ use Rattle.layer_laws.specs.Counted.{AreCounted}
 use Rattle.ts_demux.specs.declared.demuxed.AudioStream.{AudioStream}
 use Rattle.ts_demux.specs.declared.demuxed.Demuxed.{Demuxed}
 use Rattle.ts_demux.specs.declared.demuxed.PesUnit.{PesUnit}
-use Rattle.ts_demux.specs.Demux.{AreStreamsSound, IsDemuxed, units_in}
+use Rattle.ts_demux.specs.Demux.{AreStreamsSound, IsDemuxed, pes_packets_on, units_in}
 use Rattle.ts_demux.specs.Streams.{is_among}
 use Rattle.ts_demux.specs.Tables.{IsMapPid}
 use Rattle.elementary_streams.specs.Packets.{joined}
@@ -37,19 +38,21 @@ use Rattle.stream_audit.specs.declared.kept_units.KeptUnits.{KeptUnits}
 use Rattle.stream_audit.specs.Audit.{AreStreamsOf, IsAudited}
 use Rattle.stream_audit.specs.Findings.{FindsBy, FindsFirst, FindsOn}
 use Rattle.stream_audit.specs.Refusals.{IsProgramRead}
-use Rattle.stream_audit.specs.Streams.{IsVideoStream, system_stream}
+use Rattle.stream_audit.specs.Streams.{AreAudioStreams, IsAudioStream, IsVideoStream, system_stream}
 use Rattle.clean_laws.specs.Arrivals.{header_bytes, section_arrivals}
 use Rattle.clean_laws.specs.Clean.{IsCleanOn}
 use Rattle.time_laws.specs.Carried.{CarriesTimes}
 use Rattle.time_laws.specs.Clock.{IsClock}
-use Rattle.time_laws.specs.Video.{AreDecoded, DecodedPicture}
-use Rattle.audit_laws.specs.Carried.{CarriesVideo}
-use Rattle.audit_laws.specs.Kept.{AreKeptOf}
-use Rattle.audit_laws.specs.Found.{IsFullAtMost, IsFullOrOn}
+use Rattle.time_laws.specs.Video.{AreDecoded, BeginAt, DecodedPicture}
+use Rattle.audit_laws.specs.Carried.{CarriesAudio, CarriesVideo}
+use Rattle.audit_laws.specs.Kept.{AreKeptOf, IsBegun}
+use Rattle.audit_laws.specs.Found.{IsFullAtMost}
 use Rattle.audit_laws.specs.Written.{IsFoundClean}
+use Rattle.audit_laws.proofs.Axis.{AreOnAxis, HasAxis}
+use Rattle.audit_laws.proofs.Begun.{begun}
 use Rattle.audit_laws.proofs.Parsed.{IsTakenAt}
 use Rattle.audit_laws.proofs.Places.{as-many}
-use Rattle.audit_laws.proofs.Streams.{all-streams}
+use Rattle.audit_laws.proofs.Streams.{AreFullAtMost, first-found, one-behind}
 
 -- ---- the laws below, as this proof calls them
 
@@ -65,8 +68,11 @@ pub record ProgramLaws : Type 0 where
       → ((fault : TstdFault) → IsFault slot System (section_arrivals map_pid list) [] fault → ⊥) → FindsOn slot (system_stream file map_pid) found → IsFullAtMost found
   pub video : (file : List ℕ) (list : List PacketRecord) (slot pid program base : ℕ) (row : ProgramRow) (choice : List ℕ) (pes : List PesUnit) (times : List ℕ) (kept : KeptUnits)
       (stream : AuditedStream) (found : Option Finding) → CarriesVideo file list pid row choice pes times → IsCleanOn slot pid (video_queue program row choice) list
-      → All (λ (p : Payload). header_bytes p < length p.bytes) (payloads_on pid list) → first_sequence (joined pes) ≡ Some 0 → base < 2576980377600 → All (λ (at : ℕ). at < 1288490188800) times
+      → All (λ (p : Payload). header_bytes p < length p.bytes) (payloads_on pid list) → first_sequence (joined pes) ≡ Some 0 → base < 2576980377600
       → AreKeptOf base pes times row.vbv kept → IsVideoStream file base kept pid pes stream → FindsOn slot stream found → IsFullAtMost found
+  pub audio : (file : List ℕ) (list : List PacketRecord) (slot base begin at : ℕ) (audio : AudioStream) (rows : List AudioPacket) (kept : KeptUnits) (stream : AuditedStream)
+      (found : Option Finding) → CarriesAudio file list audio begin at rows → IsCleanOn slot audio.pid (audio_of rows) list → IsBegun base kept begin at
+      → IsAudioStream file base kept audio stream → FindsOn slot stream found → IsFullAtMost found
 
 -- What is known of a program of a stream.
 pub record IsProgramIn (file : List ℕ) (list : List PacketRecord) (slot place number : ℕ) (row : ProgramRow) (choice : List ℕ) : Type 0 where
@@ -80,7 +86,9 @@ pub record IsProgramIn (file : List ℕ) (list : List PacketRecord) (slot place 
   pub data_behind : All (λ (p : Payload). header_bytes p < length p.bytes) (payloads_on (video_pid place) list)
   pub sections : (fault : TstdFault) → IsFault slot System (section_arrivals (map_pid place) list) [] fault → ⊥
   pub rise : IsStrictlyIncreasing (map (λ (unit : CodedUnit). unit.due) row.units)
-  pub soon : All (λ (unit : CodedUnit). unit.due < 1288490188800) row.units
+  pub axis : HasAxis file number row
+  pub few_audios : length row.audios ≤ 8
+  pub audios_clean : (audio : ℕ) (packets : List AudioPacket) → slice_get row.audios audio ≡ Some packets → IsCleanOn slot (video_pid place + 1 + audio) (audio_of packets) list
 
 -- the list of pictures is as long as that of PES packets
 decoded-many : (base : ℕ) (earlier : List DecodedPicture) (packets : List PesUnit) (pictures : List DecodedPicture) → AreDecoded base earlier packets pictures → length packets ≡ length pictures
@@ -92,6 +100,19 @@ decoded-many base earlier (q ∷ qs) (p ∷ ps) are = ap suc (decoded-many base 
 head_of : List ℕ → ℕ
 head_of [] = 0
 head_of (x ∷ xs) = x
+
+tail_of : List ℕ → List ℕ
+tail_of [] = []
+tail_of (x ∷ xs) = xs
+
+head-pid : (o : Stream) (os : List Stream) (from n : ℕ) → map (λ (stream : Stream). stream.pid) (o ∷ os) ≡ range_with_len from (suc n) → o.pid ≡ from
+unfolding head_of
+head-pid o os from n same = ap head_of same
+
+tail-pids : (o : Stream) (os : List Stream) (from n : ℕ) → map (λ (stream : Stream). stream.pid) (o ∷ os) ≡ range_with_len from (suc n)
+    → map (λ (stream : Stream). stream.pid) os ≡ range_with_len (from + 1) n
+unfolding tail_of
+tail-pids o os from n same = ap tail_of same
 
 module _ (laws : ProgramLaws) (file : List ℕ) (list : List PacketRecord) (slot place number : ℕ) (row : ProgramRow) (choice : List ℕ)
     (is : IsProgramIn file list slot place number row choice) where
@@ -198,13 +219,70 @@ module _ (laws : ProgramLaws) (file : List ℕ) (list : List PacketRecord) (slot
     rise = is.rise;
   }
 
-  soon-shown : All (λ (at : ℕ). at < 1288490188800) ats
-  soon-shown = subst (All (λ (at : ℕ). at < 1288490188800)) is.times.dues (All-map (λ (at : ℕ). at < 1288490188800) (λ (unit : CodedUnit). unit.due) row.units is.soon)
+  -- ---- the audio streams
+
+  same-axis : is.axis.demuxed ≡ is.times.demuxed
+  same-axis = laws.one file number [] is.axis.demuxed is.times.demuxed is.axis.taken_out is.times.taken_out
+
+  on-axis : AreOnAxis is.axis.begin is.axis.at is.times.demuxed.audios row.audios
+  on-axis = subst (λ (d : Demuxed). AreOnAxis is.axis.begin is.axis.at d.audios row.audios) same-axis is.axis.audios
+
+  first-at : is.times.first.at ≡ is.axis.at
+  unfolding head_of
+  first-at = ap head_of (sym is.times.dues ∙ is.axis.dues)
+
+  begun-with : (kept : KeptUnits) (vbv : ℕ) → AreKeptOf is.times.base is.times.demuxed.video ats vbv kept → IsBegun is.times.base kept is.axis.begin is.axis.at
+  begun-with kept vbv kept_are =
+      subst (IsBegun is.times.base kept is.axis.begin) first-at
+      (begun is.times.base kept is.times.demuxed.video is.times.first is.times.later is.axis.begin is.times.clock.below kept_are.units is.times.decoded
+      (subst (λ (d : Demuxed). BeginAt is.axis.begin d.video) same-axis is.axis.begin_is))
+
+  -- the PIDs behind the video's
+  audio-pids : map (λ (stream : Stream). stream.pid) is.times.taken_out.audios ≡ range_with_len (video_pid place + 1) (length row.audios)
+  unfolding tail_of
+  audio-pids =
+      ap tail_of
+      (sym (ap (map (λ (stream : Stream). stream.pid)) is.times.taken_out.streams) ∙ is.times.pids
+      ∙ ap (range_with_len (video_pid place)) (let e : 1 + length row.audios ≡ suc (length row.audios) = omega arith in e))
+
+  audio-counted : (k : ℕ) → k < length row.audios → AreCounted (video_pid place + 1 + k) list
+  audio-counted k less = is.counted (video_pid place + 1 + k) (λ same. omega (arith, same, is.few, less, is.few_audios))
+
+  audios-full : (kept : KeptUnits) → IsBegun is.times.base kept is.axis.begin is.axis.at → (others : List Stream) (rows : List (List AudioPacket)) (from : ℕ) (streams : List AuditedStream)
+      → map (λ (stream : Stream). stream.pid) others ≡ range_with_len from (length rows) → AreOnAxis is.axis.begin is.axis.at (map (pes_packets_on file) others) rows
+      → ((k : ℕ) → k < length rows → AreCounted (from + k) list)
+      → ((k : ℕ) (packets : List AudioPacket) → slice_get rows k ≡ Some packets → IsCleanOn slot (from + k) (audio_of packets) list)
+      → AreAudioStreams file is.times.base kept (map (pes_packets_on file) others) streams → AreFullAtMost slot streams
+  audios-full kept begins [] [] from [] pids axis counted clean are = tt
+  audios-full kept begins [] [] from (s ∷ ss) pids axis counted clean are = absurd are
+  audios-full kept begins [] (r ∷ rs) from streams pids axis counted clean are = absurd axis
+  audios-full kept begins (o ∷ os) [] from streams pids axis counted clean are = absurd axis
+  audios-full kept begins (o ∷ os) (r ∷ rs) from [] pids axis counted clean are = absurd are
+  audios-full kept begins (o ∷ os) (r ∷ rs) from (s ∷ ss) pids axis counted clean are =
+      let own : from + 0 ≡ o.pid = (let e : from + 0 ≡ from = omega arith in e) ∙ sym (head-pid o os from (length rs) pids) in
+      let next : (k : ℕ) → from + suc k ≡ from + 1 + k = λ k. omega arith in (
+        λ found finds.
+            laws.audio file list slot is.times.base is.axis.begin is.axis.at (pes_packets_on file o) r kept s found
+            (record {
+              read = is.read;
+              counted = subst (λ (pid : ℕ). AreCounted pid list) own (counted 0 (omega arith));
+              units_are = refl;
+              frames = axis.0.frames;
+              framed = axis.0.framed;
+              pieces = axis.0.pieces;
+              pieces_are = axis.0.pieces_are;
+              rows_are = axis.0.rows_are;
+            })
+            (subst (λ (pid : ℕ). IsCleanOn slot pid (audio_of r) list) own (clean 0 r refl)) begins are.0 finds,
+        audios-full kept begins os rs (from + 1) ss (tail-pids o os from (length rs) pids) axis.1
+            (λ k less. subst (λ (pid : ℕ). AreCounted pid list) (next k) (counted (suc k) (omega (arith, less))))
+            (λ k packets there. subst (λ (pid : ℕ). IsCleanOn slot pid (audio_of packets) list) (next k) (clean (suc k) packets there)) are.1,
+      )
 
   -- ---- what is found
 
   found-of : (kept : KeptUnits) (found : Option Finding) → AreKeptOf is.times.base is.times.demuxed.video ats is.times.first.seq.vbv kept → IsAudited file number slot kept found
-      → IsFullOrOn (map (λ (audio : AudioStream). audio.pid) is.times.demuxed.audios) found
+      → IsFullAtMost found
   found-of kept found kept_are audited = by_demuxed audited.demuxed audited.map_pid audited.clock audited.streams same map-same clock-same off-none audited.streams_are audited.first
     where
       same : audited.demuxed ≡ is.times.demuxed
@@ -226,19 +304,26 @@ module _ (laws : ProgramLaws) (file : List ℕ) (list : List PacketRecord) (slot
           ∙ ap (λ (d : Demuxed). first_off slot is.times.base (places_on file d.map.pcr_pid)) same ∙ off-found
 
       by_demuxed : (d : Demuxed) (pid : ℕ) (c : FoundClock) (streams : List AuditedStream) → d ≡ is.times.demuxed → pid ≡ map_pid place → c.zero ≡ is.times.base → c.off ≡ None
-          → AreStreamsOf file pid c.zero kept d streams → FindsBy slot d.map.pcr_pid c.off streams found
-          → IsFullOrOn (map (λ (audio : AudioStream). audio.pid) is.times.demuxed.audios) found
+          → AreStreamsOf file pid c.zero kept d streams → FindsBy slot d.map.pcr_pid c.off streams found → IsFullAtMost found
       by_demuxed d pid c streams d-is pid-is zero-is off-is are finds =
-          subst (λ (e : Demuxed). IsFullOrOn (map (λ (audio : AudioStream). audio.pid) e.audios) found) d-is
-          (all-streams file slot c.zero kept are.video_stream d.audios are.audio_streams (system_stream file pid) found are.are_audio
-          (λ found_one finds_one.
-          laws.video file list slot (video_pid place) place is.times.base row choice is.times.demuxed.video ats kept are.video_stream found_one of-video is.is_clean is.data_behind
-          begins is.times.clock.below soon-shown (record { units = kept_are.units; buffer = kept_are.buffer ∙ sym is.times.buffer }) of_video finds_one)
-          (λ found_one finds_one.
-          laws.sections file list slot (map_pid place) found_one is.read pat-counted map-counted is.sections
-          (subst (λ (k : ℕ). FindsOn slot (system_stream file k) found_one) pid-is finds_one))
-          by_off)
+          first-found slot (are.video_stream ∷ are.audio_streams ++ system_stream file pid ∷ []) found (
+            λ found_one finds_one.
+                laws.video file list slot (video_pid place) place is.times.base row choice is.times.demuxed.video ats kept are.video_stream found_one of-video is.is_clean is.data_behind
+                begins is.times.clock.below (record { units = kept_are.units; buffer = kept_are.buffer ∙ sym is.times.buffer }) of_video finds_one,
+            one-behind slot are.audio_streams (system_stream file pid)
+                (audios-full kept (begun-with kept is.times.first.seq.vbv kept_are) is.times.taken_out.audios row.audios (video_pid place + 1) are.audio_streams audio-pids
+                (subst (λ (audios : List AudioStream). AreOnAxis is.axis.begin is.axis.at audios row.audios) is.times.taken_out.audio_packets on-axis) audio-counted is.audios_clean of_audios)
+                (λ found_one finds_one.
+                laws.sections file list slot (map_pid place) found_one is.read pat-counted map-counted is.sections
+                (subst (λ (k : ℕ). FindsOn slot (system_stream file k) found_one) pid-is finds_one)),
+          )
+          by_off
         where
+          of_audios : AreAudioStreams file is.times.base kept (map (pes_packets_on file) is.times.taken_out.audios) are.audio_streams
+          of_audios =
+              subst (λ (audios : List AudioStream). AreAudioStreams file is.times.base kept audios are.audio_streams) (ap (λ (e : Demuxed). e.audios) d-is ∙ is.times.taken_out.audio_packets)
+              (subst (λ (z : ℕ). AreAudioStreams file z kept d.audios are.audio_streams) zero-is are.are_audio)
+
           of_video : IsVideoStream file is.times.base kept (video_pid place) is.times.demuxed.video are.video_stream
           of_video =
               subst (λ (k : ℕ). IsVideoStream file is.times.base kept k is.times.demuxed.video are.video_stream)

@@ -1,19 +1,19 @@
 -- The video of a stream that is clean by its own times, as an audit judges it: what comes to its decoder and what is removed from it is what the stream is clean for.
-use Rattle.std.proofs.Common.{◌≡◌, ℕ, suc, ◌+◌, ◌-◌, ◌*◌, ◌%◌, ◌<◌, ◌≤◌, ◌==◌, ◌&&◌, nat_lt, not, Bool, true, false, cond, if◌then◌else◌, List, [], ◌∷◌}
-use Rattle.std.proofs.Common.{◌++◌, All, length, map, replicate, take, Option, Some, refl, sym, ap, ap₂, subst, ◌∙◌, arith, length-append, ℤ, pos, ◌+ℤ◌, ◌-ℤ◌, ◌*ℤ◌}
+use Rattle.std.proofs.Common.{◌≡◌, ℕ, ◌+◌, ◌-◌, ◌*◌, ◌%◌, ◌<◌, ◌≤◌, ◌==◌, ◌&&◌, nat_lt, not, Bool, true, false, cond, List, [], ◌∷◌}
+use Rattle.std.proofs.Common.{◌++◌, All, length, map, replicate, Option, Some, refl, sym, ap, ap₂, subst, ◌∙◌, arith, length-append, ℤ, pos, ◌+ℤ◌, ◌-ℤ◌, ◌*ℤ◌}
 use Rattle.std.specs.List.{AllZip, flat_map, sum_by, zip}
 use Rattle.std.specs.List.Sorted.{IsNonDecreasing, IsStrictlyIncreasing}
 use Rattle.std.proofs.lemmas.Bool.{and_right, le-leb, ltb-false, ltb-true}
 use Rattle.std.proofs.lemmas.Int.{ints}
 use Rattle.std.proofs.lemmas.List.{append-nil, length-drop, length-map, length-replicate}
-use Rattle.std.proofs.lemmas.List.Elements.{All-cons, All-head, All-nil, All-tail}
+use Rattle.std.proofs.lemmas.List.Elements.{All-head, All-tail}
 use Rattle.std.proofs.lemmas.List.Folds.{flat_map-map}
 use Rattle.std.proofs.lemmas.List.Sums.{sum_by-cons}
 use Rattle.std.proofs.lemmas.Option.{same_Some}
 use Rattle.std.proofs.lemmas.Simd.{map-map}
-use Rattle.bit_lists.specs.Payload.{CarriedPayload, Payload, is_start}
+use Rattle.bit_lists.specs.Payload.{CarriedPayload, Payload}
 use Rattle.pes_units.specs.PesHeader.{header_length, is_header_whole}
-use Rattle.pes_units.specs.PesPackets.{Gathered, gathered, is_cut, is_dropped, up_to_start}
+use Rattle.pes_units.specs.PesPackets.{Gathered, gathered, is_cut, is_dropped}
 use Rattle.ts_packets.specs.Packet.{PacketRecord}
 use Rattle.ts_packets.specs.Carried.{carried, payloads_on}
 use Rattle.ts_packets.specs.TransportStream.{packets, pid_pieces, piece_count}
@@ -40,8 +40,9 @@ use Rattle.elementary_streams.specs.Packets.{joined, pes_payload_of, taken}
 use Rattle.stream_audit.specs.declared.audited_stream.AuditedStream.{AuditedStream}
 use Rattle.stream_audit.specs.declared.finding.Finding.{Finding}
 use Rattle.stream_audit.specs.declared.kept_units.KeptUnits.{KeptUnits}
+use Rattle.stream_audit.specs.Clock.{shift}
 use Rattle.stream_audit.specs.Findings.{FindsOn}
-use Rattle.stream_audit.specs.PesBytes.{brought_by_all, bytes_before}
+use Rattle.stream_audit.specs.PesBytes.{brought_by_all}
 use Rattle.stream_audit.specs.Removals.{not_before_zero, removed_at, bytes_of_units, unit_removals}
 use Rattle.stream_audit.specs.Streams.{IsVideoStream, arrivals_by}
 use Rattle.es_units.specs.Units.{first_sequence}
@@ -54,54 +55,54 @@ use Rattle.audit_laws.specs.Found.{IsFullAtMost}
 use Rattle.audit_laws.specs.Kept.{AreKeptOf, AreOwnUnits}
 use Rattle.audit_laws.proofs.Found.{found-on}
 use Rattle.audit_laws.proofs.Arrivals.{arrivals-are, parts-many, parts_of_payload, payload-parts}
-use Rattle.audit_laws.proofs.Gathered.{LeavesData, fits-gathered, parts-gathered, plain_parts, whole-parts}
-use Rattle.audit_laws.proofs.Places.{PacketLaws, as-many, places-are, places_by}
+use Rattle.audit_laws.proofs.Gathered.{LeavesData, before-is, fits-gathered, front, front-is, none-there, of-map, parts-gathered, plain_parts, whole-parts}
+use Rattle.audit_laws.proofs.Places.{PacketLaws, carried-are, places-are, places_by}
 use Rattle.audit_laws.proofs.Removed.{chosen_dues, chosen_sizes, packets-kept, queue-kept, spread, video-gone, video-wanted, wanted_with_headers}
 
 -- ---- times
 
--- what is due when the clock first shows a time is removed then
-half : (shown_at base due at : ℕ) (turns : ℤ) → shown_at < 2576980377600 → at < 1288490188800 → due < 1288490188800
+-- what is due when the clock first shows a time, less than half a round from it, is removed then
+half : (shown_at base due at : ℕ) (turns : ℤ) → shown_at < 2576980377600 → due < at + 1288490188800 → at < due + 1288490188800
     → pos (shown_at + at) ≡ (pos (base + due) +ℤ turns *ℤ pos 2576980377600) → (base + (2576980377600 - shown_at % 2576980377600)) % 2576980377600 < 1288490188800
-    → due + (base + (2576980377600 - shown_at % 2576980377600)) % 2576980377600 ≡ at
-half shown_at base due at turns below soon early shown low = omega (arith, ints)
+    → (pos due +ℤ pos ((base + (2576980377600 - shown_at % 2576980377600)) % 2576980377600)) ≡ pos at
+half shown_at base due at turns below early late shown low = omega (arith, ints)
 
-behind : (shown_at base due at : ℕ) (turns : ℤ) → shown_at < 2576980377600 → at < 1288490188800 → due < 1288490188800
+behind : (shown_at base due at : ℕ) (turns : ℤ) → shown_at < 2576980377600 → due < at + 1288490188800 → at < due + 1288490188800
     → pos (shown_at + at) ≡ (pos (base + due) +ℤ turns *ℤ pos 2576980377600) → 1288490188800 ≤ (base + (2576980377600 - shown_at % 2576980377600)) % 2576980377600
     → (pos due +ℤ (pos ((base + (2576980377600 - shown_at % 2576980377600)) % 2576980377600) -ℤ pos 2576980377600)) ≡ pos at
-behind shown_at base due at turns below soon early shown high = omega (arith, ints)
+behind shown_at base due at turns below early late shown high = omega (arith, ints)
 
-pub removed-when : (shown_at base due at : ℕ) → shown_at < 2576980377600 → at < 1288490188800 → due < 1288490188800 → IsFirstShown shown_at (pos (base + due)) at
-    → removed_at shown_at base (pos due) ≡ at
-removed-when shown_at base due at below soon early shown = by_test (nat_lt from 1288490188800) refl
+pub shift-is : (shown_at base due at : ℕ) → shown_at < 2576980377600 → due < at + 1288490188800 → at < due + 1288490188800 → IsFirstShown shown_at (pos (base + due)) at
+    → (pos due +ℤ shift shown_at base) ≡ pos at
+shift-is shown_at base due at below early late shown = by_test (nat_lt ((base + (2576980377600 - shown_at % 2576980377600)) % 2576980377600) 1288490188800) refl
   where
-    from : ℕ
-    from = (base + (2576980377600 - shown_at % 2576980377600)) % 2576980377600
+    by_test : (b : Bool) → nat_lt ((base + (2576980377600 - shown_at % 2576980377600)) % 2576980377600) 1288490188800 ≡ b → (pos due +ℤ shift shown_at base) ≡ pos at
+    by_test true is = rw is (half shown_at base due at shown.shown.0 below early late shown.shown.1 (ltb-true ((base + (2576980377600 - shown_at % 2576980377600)) % 2576980377600) 1288490188800 is))
+    by_test false is = rw is (behind shown_at base due at shown.shown.0 below early late shown.shown.1
+        (ltb-false ((base + (2576980377600 - shown_at % 2576980377600)) % 2576980377600) 1288490188800 is))
 
-    by_test : (b : Bool) → nat_lt ((base + (2576980377600 - shown_at % 2576980377600)) % 2576980377600) 1288490188800 ≡ b → removed_at shown_at base (pos due) ≡ at
-    by_test true is = rw is (half shown_at base due at shown.shown.0 below soon early shown.shown.1 (ltb-true ((base + (2576980377600 - shown_at % 2576980377600)) % 2576980377600) 1288490188800 is))
-    by_test false is = rw is (ap not_before_zero
-        (behind shown_at base due at shown.shown.0 below soon early shown.shown.1 (ltb-false ((base + (2576980377600 - shown_at % 2576980377600)) % 2576980377600) 1288490188800 is)))
+removed-when : (shown_at base due at : ℕ) → shown_at < 2576980377600 → due < at + 1288490188800 → at < due + 1288490188800 → IsFirstShown shown_at (pos (base + due)) at
+    → removed_at shown_at base (pos due) ≡ at
+removed-when shown_at base due at below early late shown = ap not_before_zero (shift-is shown_at base due at below early late shown)
 
 -- ---- what is removed
 
 abbrev pub payload_sizes : List PesUnit → List ℕ
 payload_sizes packets = map (λ (packet : PesUnit). length (pes_payload_of packet)) packets
 
-removals-are : (shown_at base : ℕ) (units : List Removal) (packets : List PesUnit) (times : List ℕ) → shown_at < 2576980377600 → All (λ (at : ℕ). at < 1288490188800) times
-    → AreOwnUnits shown_at base units packets times
+removals-are : (shown_at base : ℕ) (units : List Removal) (packets : List PesUnit) (times : List ℕ) → shown_at < 2576980377600 → AreOwnUnits shown_at base units packets times
     → (removed (map (λ (unit : Removal). record { due = removed_at shown_at base (pos unit.due); bytes = unit.bytes }) units) ≡ spread (payload_sizes packets) times)
     × (map (λ (removal : Removal). removal.due) (map (λ (unit : Removal). record { due = removed_at shown_at base (pos unit.due); bytes = unit.bytes }) units) ≡ times)
     × (sum_by (λ (unit : Removal). unit.bytes) units ≡ sum_by (λ (packet : PesUnit). length (pes_payload_of packet)) packets)
 unfolding removed
-removals-are shown_at base [] [] [] below soon are = (refl, refl, refl)
-removals-are shown_at base [] [] (t ∷ ts) below soon are = absurd are
-removals-are shown_at base [] (p ∷ ps) times below soon are = absurd are
-removals-are shown_at base (u ∷ us) [] times below soon are = absurd are
-removals-are shown_at base (u ∷ us) (p ∷ ps) [] below soon are = absurd are
-removals-are shown_at base (u ∷ us) (p ∷ ps) (t ∷ ts) below soon are =
-    let at : removed_at shown_at base (pos u.due) ≡ t = removed-when shown_at base u.due t below (All-head (λ (at : ℕ). at < 1288490188800) t ts soon) are.0.early are.0.when in
-    let rest = removals-are shown_at base us ps ts below (All-tail (λ (at : ℕ). at < 1288490188800) t ts soon) are.1 in (
+removals-are shown_at base [] [] [] below are = (refl, refl, refl)
+removals-are shown_at base [] [] (t ∷ ts) below are = absurd are
+removals-are shown_at base [] (p ∷ ps) times below are = absurd are
+removals-are shown_at base (u ∷ us) [] times below are = absurd are
+removals-are shown_at base (u ∷ us) (p ∷ ps) [] below are = absurd are
+removals-are shown_at base (u ∷ us) (p ∷ ps) (t ∷ ts) below are =
+    let at : removed_at shown_at base (pos u.due) ≡ t = removed-when shown_at base u.due t below are.0.not_later are.0.not_earlier are.0.when in
+    let rest = removals-are shown_at base us ps ts below are.1 in (
       ap₂ (λ (xs ys : List ℕ). xs ++ ys) (ap₂ (λ (n k : ℕ). replicate n (940 * k)) are.0.bytes at) rest.0,
       ap₂ (λ (x : ℕ) (xs : List ℕ). x ∷ xs) at rest.1,
       sum_by-cons (λ (unit : Removal). unit.bytes) u us ∙ ap₂ (λ (x y : ℕ). x + y) are.0.bytes rest.2
@@ -109,13 +110,6 @@ removals-are shown_at base (u ∷ us) (p ∷ ps) (t ∷ ts) below soon are =
     )
 
 -- ---- payloads
-
-of-map : {A B : Type 0} (P : B → Type 0) (f : A → B) (xs : List A) (ys : List B) → map f xs ≡ ys → All P ys → All (λ x. P (f x)) xs
-of-map P f xs ys same all = from xs (subst (All P) (sym same) all)
-  where
-    from : (xs : List _) → All P (map f xs) → All (λ x. P (f x)) xs
-    from [] all = All-nil (λ x. P (f x))
-    from (x ∷ xs) all = All-cons (λ x. P (f x)) x xs (All-head P (f x) (map f xs) all) (from xs (All-tail P (f x) (map f xs) all))
 
 queue-many : (headers : Headers) (payloads : List Payload) (packets : List QueuedPacket) → AllZip (IsPayloadOf headers) payloads packets
     → length (flat_map parts_of_payload payloads) ≡ length (wanted_with_headers packets)
@@ -142,39 +136,6 @@ spread-many (b ∷ bs) (t ∷ ts) fits many =
     ∙ ap₂ (λ (x y : ℕ). x + y) (length-replicate (length b) (940 * t) ∙ sym own)
     (spread-many bs ts (All-tail (λ (bytes : List ℕ). header_length bytes < length bytes) b bs fits) (omega (arith, many)))
     ∙ sym (length-append (replicate (header_length b) PesHeader ++ replicate (length b - header_length b) Data) (plain_parts bs))
-
--- ---- what comes before the first PES packet
-
--- the bytes of payloads before the first in which a PES packet begins
-abbrev front : List Payload → List ℕ
-front [] = []
-front (payload ∷ more) = if is_start payload then [] else payload.bytes ++ front more
-
-front-is : (carried : List CarriedPayload) → up_to_start carried ≡ front (map (λ (c : CarriedPayload). c.payload) carried)
-front-is [] = refl
-front-is (c ∷ cs) = ap (λ (rest : List ℕ). cond (is_start c.payload) [] (c.payload.bytes ++ rest)) (front-is cs)
-
-before-is : (pid from : ℕ) (list : List PacketRecord) → bytes_before (places_by (λ (packet : PacketRecord). packet.pid == pid) from list) ≡ length (front (payloads_on pid list))
-before-is pid from [] = refl
-before-is pid from (packet ∷ more) = by_tests (packet.pid == pid) packet.start (nat_lt 0 (length packet.payload)) refl refl refl (before-is pid (from + 1) more)
-  where
-    none : (bytes : List ℕ) → nat_lt 0 (length bytes) ≡ false → length bytes ≡ 0
-    none [] is = refl
-    none (byte ∷ bytes) is = absurd (let low = ltb-false 0 (suc (length bytes)) is in omega (arith, low))
-
-    no-more : 0 + length (front (payloads_on pid more)) ≡ length (front (payloads_on pid more))
-    no-more = omega arith
-
-    by_tests : (a start some : Bool) → (packet.pid == pid) ≡ a → packet.start ≡ start → nat_lt 0 (length packet.payload) ≡ some
-        → (bytes_before (places_by (λ (packet : PacketRecord). packet.pid == pid) (from + 1) more) ≡ length (front (payloads_on pid more)))
-        → bytes_before (places_by (λ (packet : PacketRecord). packet.pid == pid) from (packet ∷ more)) ≡ length (front (payloads_on pid (packet ∷ more)))
-    by_tests true true true is starts has rest =
-        rw (is, starts, has) (ap (λ (b : Bool). length (cond b [] (packet.payload ++ front (payloads_on pid more)))) (sym has))
-    by_tests true false true is starts has rest =
-        rw (is, starts, has) (ap (λ (n : ℕ). length packet.payload + n) rest ∙ sym (length-append packet.payload (front (payloads_on pid more))))
-    by_tests true true false is starts has rest = rw (is, starts, has) (ap₂ (λ (x y : ℕ). x + y) (none packet.payload has) rest ∙ no-more)
-    by_tests true false false is starts has rest = rw (is, starts, has) (ap₂ (λ (x y : ℕ). x + y) (none packet.payload has) rest ∙ no-more)
-    by_tests false start some is starts has rest = rw is rest
 
 -- ---- PES packets that are taken
 
@@ -215,10 +176,6 @@ zip-dues [] choice many = refl
 zip-dues (u ∷ us) [] many = absurd (omega (arith, many))
 zip-dues (u ∷ us) (k ∷ choice) many = ap (λ (xs : List ℕ). u.due ∷ xs) (zip-dues us choice (omega (arith, many)))
 
-none-there : (xs : List ℕ) → length xs ≡ 0 → xs ≡ []
-none-there [] is = refl
-none-there (x ∷ xs) is = absurd (omega (arith, is))
-
 -- ---- the whole
 
 module _ (laws : PacketLaws) (file : List ℕ) (list : List PacketRecord) (pid program : ℕ) (row : ProgramRow) (choice : List ℕ) (pes : List PesUnit) (times : List ℕ) (headers : Headers)
@@ -231,14 +188,7 @@ module _ (laws : PacketLaws) (file : List ℕ) (list : List PacketRecord) (pid p
   sent_bytes = map (λ (packet : PesUnit). packet.bytes) pes
 
   payloads-are : map (λ (c : CarriedPayload). c.payload) on_pid ≡ payloads_on pid list
-  payloads-are =
-      ap (λ (n : ℕ). map (λ (c : CarriedPayload). c.payload) (carried (pid_pieces file pid 0 n))) (as-many file list is.read)
-      ∙ laws.carries file list pid 0 (length list) is.read is.counted (omega arith) (omega arith)
-      ∙ ap (λ (n : ℕ). payloads_on pid (take n list)) (let e : length list - 0 ≡ length list = omega arith in e) ∙ ap (payloads_on pid) (take-all list)
-    where
-      take-all : (xs : List PacketRecord) → take (length xs) xs ≡ xs
-      take-all [] = refl
-      take-all (x ∷ xs) = ap (λ (ys : List PacketRecord). x ∷ ys) (take-all xs)
+  payloads-are = carried-are laws file list is.read pid is.counted
 
   leaves-each : All LeavesData on_pid
   leaves-each = of-map (λ (p : Payload). header_bytes p < length p.bytes) (λ (c : CarriedPayload). c.payload) on_pid (payloads_on pid list) payloads-are data_behind
@@ -307,10 +257,9 @@ module _ (laws : PacketLaws) (file : List ℕ) (list : List PacketRecord) (pid p
       ∙ arrivals-are (λ (packet : PacketRecord). packet.pid == pid) 0 list []
 
   -- what is removed from it
-  pub removals-allowed : (shown_at : ℕ) (kept_units : KeptUnits) → shown_at < 2576980377600 → All (λ (at : ℕ). at < 1288490188800) times
-      → AreOwnUnits shown_at kept_units.base kept_units.units pes times → IsAllowed (Video program row.vbv) headers (video_queue program row choice).packets (unit_removals shown_at kept_units)
-  removals-allowed shown_at kept_units below soon are =
-      let removals = removals-are shown_at kept_units.base kept_units.units pes times below soon are in
+  pub removals-allowed : (shown_at : ℕ) (kept_units : KeptUnits) → shown_at < 2576980377600 → AreOwnUnits shown_at kept_units.base kept_units.units pes times → IsAllowed (Video program row.vbv) headers (video_queue program row choice).packets (unit_removals shown_at kept_units)
+  removals-allowed shown_at kept_units below are =
+      let removals = removals-are shown_at kept_units.base kept_units.units pes times below are in
       let whole : All (λ (bytes : List ℕ). header_length bytes ≤ length bytes) sent_bytes = λ k d within. (let low = fits k d within in omega (arith, low)) in
       let payload-lengths : map (λ (bytes : List ℕ). length bytes - header_length bytes) sent_bytes ≡ payload_sizes pes =
       map-map (λ (bytes : List ℕ). length bytes - header_length bytes) (λ (packet : PesUnit). packet.bytes) pes ∙ sizes-less pes in
@@ -328,21 +277,19 @@ module _ (laws : PacketLaws) (file : List ℕ) (list : List PacketRecord) (pid p
       sizes-less (packet ∷ more) = ap₂ (λ (x : ℕ) (xs : List ℕ). x ∷ xs) (sym (length-drop (header_length packet.bytes) packet.bytes)) (sizes-less more)
 
   -- all of its bytes are kept
-  pub bytes-kept : (shown_at : ℕ) (kept_units : KeptUnits) → shown_at < 2576980377600 → All (λ (at : ℕ). at < 1288490188800) times
-      → AreOwnUnits shown_at kept_units.base kept_units.units pes times → bytes_of_units kept_units ≡ sum_by (λ (packet : PesUnit). length (pes_payload_of packet)) pes
-  bytes-kept shown_at kept_units below soon are = (removals-are shown_at kept_units.base kept_units.units pes times below soon are).2
+  pub bytes-kept : (shown_at : ℕ) (kept_units : KeptUnits) → shown_at < 2576980377600 → AreOwnUnits shown_at kept_units.base kept_units.units pes times → bytes_of_units kept_units ≡ sum_by (λ (packet : PesUnit). length (pes_payload_of packet)) pes
+  bytes-kept shown_at kept_units below are = (removals-are shown_at kept_units.base kept_units.units pes times below are).2
 
 -- what an audit takes of it
 pub video-found : PacketLaws
     → (file : List ℕ) (list : List PacketRecord) (slot pid program base : ℕ) (row : ProgramRow) (choice : List ℕ) (pes : List PesUnit) (times : List ℕ) (kept_units : KeptUnits)
     (stream : AuditedStream) (found : Option Finding) → CarriesVideo file list pid row choice pes times → (is_clean : IsCleanOn slot pid (video_queue program row choice) list)
-    → All (λ (p : Payload). header_bytes p < length p.bytes) (payloads_on pid list) → first_sequence (joined pes) ≡ Some 0 → base < 2576980377600 → All (λ (at : ℕ). at < 1288490188800) times
-    → AreKeptOf base pes times row.vbv kept_units → IsVideoStream file base kept_units pid pes stream → FindsOn slot stream found → IsFullAtMost found
-video-found laws file list slot pid program base row choice pes times kept_units stream found is is_clean data_behind first below soon kept_are audited finds =
+    → All (λ (p : Payload). header_bytes p < length p.bytes) (payloads_on pid list) → first_sequence (joined pes) ≡ Some 0 → base < 2576980377600 → AreKeptOf base pes times row.vbv kept_units → IsVideoStream file base kept_units pid pes stream → FindsOn slot stream found → IsFullAtMost found
+video-found laws file list slot pid program base row choice pes times kept_units stream found is is_clean data_behind first below kept_are audited finds =
     found-on slot stream
     (λ fault has.
     is_clean.clean (unit_removals base kept_units) fault
-    (removals-allowed laws file list pid program row choice pes times is_clean.headers is is_clean.payloads data_behind base kept_units below soon kept_are.units)
+    (removals-allowed laws file list pid program row choice pes times is_clean.headers is is_clean.payloads data_behind base kept_units below kept_are.units)
     (subst (λ (arrivals : List Arrival). IsFault slot (VideoBuffers row.vbv) arrivals (unit_removals base kept_units) fault) arrivals
     (subst (λ (vbv : ℕ). IsFault slot (VideoBuffers vbv) (arrivals_by (places_on file pid) (record { from = audited.from; to = audited.from + bytes_of_units kept_units }) (taken true pes))
     (unit_removals base kept_units) fault)
@@ -359,4 +306,4 @@ video-found laws file list slot pid program base row choice pes times kept_units
     arrivals =
         ap (λ (n : ℕ). arrivals_by (places_on file pid) (record { from = n; to = n + bytes_of_units kept_units }) (taken true pes)) from_zero
         ∙ arrivals-same laws file list pid program row choice pes times is_clean.headers is is_clean.payloads data_behind (0 + bytes_of_units kept_units)
-        (let all = bytes-kept laws file list pid program row choice pes times is_clean.headers is is_clean.payloads data_behind base kept_units below soon kept_are.units in omega (arith, all))
+        (let all = bytes-kept laws file list pid program row choice pes times is_clean.headers is is_clean.payloads data_behind base kept_units below kept_are.units in omega (arith, all))

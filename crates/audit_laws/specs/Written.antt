@@ -7,11 +7,11 @@ use Rattle.stream_audit.specs.declared.kept_units.KeptUnits.{KeptUnits}
 use Rattle.stream_audit.specs.Audit.{IsAudited}
 use Rattle.stream_audit.specs.Refusals.{IsProgramRead}
 use Rattle.time_laws.specs.Video.{AreDecoded, DecodedPicture}
-use Rattle.audit_laws.specs.Found.{IsFullOrOn}
+use Rattle.audit_laws.specs.Found.{IsFullAtMost}
 use Rattle.audit_laws.specs.Kept.{AreKeptOf}
 
 -- A program of a file is read by an audit, and none of its clock references is off. Whatever units of its pictures an audit is handed, as they are decoded by the
--- file's own clock, it finds nothing on its video and on its sections but a transport buffer that isn't empty for a second.
+-- file's own clock, it finds nothing on its streams but a transport buffer that isn't empty for a second.
 pub record IsFoundClean (file : List ℕ) (slot number : ℕ) : Type 0 where
   pub demuxed : Demuxed
   pub map_pid : ℕ
@@ -22,4 +22,4 @@ pub record IsFoundClean (file : List ℕ) (slot number : ℕ) : Type 0 where
   pub later : List DecodedPicture
   pub decoded : AreDecoded clock.zero [] demuxed.video (first ∷ later)
   pub found : (kept : KeptUnits) (found : Option Finding) → AreKeptOf clock.zero demuxed.video (map (λ picture. picture.at) (first ∷ later)) first.seq.vbv kept
-      → IsAudited file number slot kept found → IsFullOrOn (map (λ audio. audio.pid) demuxed.audios) found
+      → IsAudited file number slot kept found → IsFullAtMost found

@@ -1,5 +1,5 @@
 //! What an audit finds on a stream, part by part, as functions that do nothing.
-ghost use Rattle.std.specs.Prelude.{◌≡◌, ℕ, ◌<◌, ◌≤◌, ◌/◌, All, List, [], Option, Some, None, length, map};
+ghost use Rattle.std.specs.Prelude.{◌≡◌, ℕ, ◌<◌, All, List, [], Option, Some, None, length, map};
 ghost use Rattle.ts_packets.specs.Packet.{PacketRecord};
 ghost use Rattle.ts_packets.specs.TransportStream.{packets};
 ghost use Rattle.ts_packets.specs.Carried.{payloads_on};
@@ -9,28 +9,31 @@ ghost use Rattle.tstd_model.specs.declared.decoder_input.BufferKind.TheVariants.
 ghost use Rattle.tstd_model.specs.declared.decoder_input.Removal.{Removal};
 ghost use Rattle.tstd_model.specs.declared.fault.TstdFault.{TstdFault};
 ghost use Rattle.tstd_model.specs.Faults.{IsFault};
+ghost use Rattle.ts_demux.specs.declared.demuxed.AudioStream.{AudioStream};
 ghost use Rattle.ts_demux.specs.declared.demuxed.PesUnit.{PesUnit};
 ghost use Rattle.ts_demux.specs.PidPlaces.{places_on};
 ghost use Rattle.ts_demux.specs.Tables.{pat_pid};
 ghost use Rattle.elementary_streams.specs.Packets.{joined};
 ghost use Rattle.es_units.specs.Units.{first_sequence};
+ghost use Rattle.version_table.specs.declared.table.AudioPacket.{AudioPacket};
 ghost use Rattle.version_table.specs.declared.table.ProgramRow.{ProgramRow};
-ghost use Rattle.slot_rule.specs.Queues.{video_queue};
+ghost use Rattle.slot_rule.specs.Queues.{audio_of, video_queue};
 ghost use Rattle.layer_laws.specs.Counted.{AreCounted};
 ghost use Rattle.stream_audit.specs.declared.audited_stream.AuditedStream.{AuditedStream};
 ghost use Rattle.stream_audit.specs.declared.finding.Finding.{Finding};
 ghost use Rattle.stream_audit.specs.declared.kept_units.KeptUnits.{KeptUnits};
 ghost use Rattle.stream_audit.specs.Clock.{clock_of, first_off};
 ghost use Rattle.stream_audit.specs.Findings.{FindsOn};
-ghost use Rattle.stream_audit.specs.Streams.{IsVideoStream, system_stream};
+ghost use Rattle.stream_audit.specs.Streams.{IsAudioStream, IsVideoStream, system_stream};
 ghost use Rattle.clean_laws.specs.Arrivals.{header_bytes, section_arrivals};
 ghost use Rattle.clean_laws.specs.Clean.{IsCleanOn};
 ghost use Rattle.time_laws.specs.Clock.{IsClock};
-ghost use Rattle.audit_laws.specs.Carried.{CarriesVideo};
+ghost use Rattle.audit_laws.specs.Carried.{CarriesAudio, CarriesVideo};
 ghost use Rattle.audit_laws.specs.Found.{IsFullAtMost};
 ghost use Rattle.audit_laws.specs.Headers.{HaveNoLessHeaders};
-ghost use Rattle.audit_laws.specs.Kept.{AreKeptOf};
+ghost use Rattle.audit_laws.specs.Kept.{AreKeptOf, IsBegun};
 
+use elementary_streams::laws::one_answer;
 use layer_laws::packets::{counted_payloads_are_carried, packets_stand_in_order};
 
 /// Where the packets of a PID are counted and their PCRs are those of one clock, an audit reads this clock, and finds no reference off.
@@ -54,18 +57,30 @@ pub fn sections_are_clean()
 }
 
 /// A video that is clean by the times that its stream carries has no fault in an audit that is handed its units: what comes to its decoder and what is removed
-/// from it are the same bytes at the same instants. It needs data behind each PES header in the packet that the header begins in, times within half a round of
-/// the clock, and a sequence header at the video's first byte.
+/// from it are the same bytes at the same instants. It needs data behind each PES header in the packet that the header begins in, and a sequence header at the
+/// video's first byte.
 pub fn video_is_clean()
     ensures { (file : List ℕ) (list : List PacketRecord) (slot pid program base : ℕ) (row : ProgramRow) (choice : List ℕ) (pes : List PesUnit) (times : List ℕ) (kept : KeptUnits)
         (stream : AuditedStream) (found : Option Finding)
         → CarriesVideo file list pid row choice pes times → IsCleanOn slot pid (video_queue program row choice) list
         → All (λ payload. header_bytes payload < length payload.bytes) (payloads_on pid list) → first_sequence (joined pes) ≡ Some 0
-        → base < PCR_MODULUS → All (λ at. at < PCR_MODULUS / 2) times → AreKeptOf base pes times row.vbv kept
+        → base < PCR_MODULUS → AreKeptOf base pes times row.vbv kept
         → IsVideoStream file base kept pid pes stream → FindsOn slot stream found → IsFullAtMost found }
 {
     packets_stand_in_order();
     counted_payloads_are_carried();
+}
+
+/// An audio stream that is clean by the times that its stream carries has no fault in an audit that is handed the units of the program's video, as these begin:
+/// no less of what comes to its decoder is PES header, and each byte is removed with its frame, between the times at which its packet is wanted and gone.
+pub fn audio_is_clean()
+    ensures { (file : List ℕ) (list : List PacketRecord) (slot base begin at : ℕ) (audio : AudioStream) (rows : List AudioPacket) (kept : KeptUnits) (stream : AuditedStream)
+        (found : Option Finding) → CarriesAudio file list audio begin at rows → IsCleanOn slot audio.pid (audio_of rows) list → IsBegun base kept begin at
+        → IsAudioStream file base kept audio stream → FindsOn slot stream found → IsFullAtMost found }
+{
+    packets_stand_in_order();
+    counted_payloads_are_carried();
+    one_answer();
 }
 
 /// An audio decoder has no fault more where more bytes of the payloads that come to it are PES headers: an audit counts what a header has left for the next
