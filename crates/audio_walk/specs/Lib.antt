@@ -1,0 +1,2 @@
+pub mod AudioWalk
+pub mod Private
