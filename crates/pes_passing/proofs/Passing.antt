@@ -1,6 +1,6 @@
 -- PES packets that pass out of a source, one transport packet further.
 use Rattle.std.proofs.Common.{◌≡◌, ℕ, ◌+◌, ◌*◌, ◌<◌, ◌≤◌, true, false, List, [], ◌++◌, length, take, drop, slice_get, Option, Some, None, IsSome, refl, sym}
-use Rattle.std.proofs.Common.{ap, ◌∙◌, subst, arith, append_assoc, length-take-le}
+use Rattle.std.proofs.Common.{ap, ◌∙◌, subst, arith, append_assoc, length-append, length-take-le}
 use Rattle.shelf_io.specs.Source.{source_bytes_most}
 use Rattle.ts_packets.specs.TransportStream.{piece_at, piece_count}
 use Rattle.ts_demux.specs.declared.demux_fault.DemuxFault.{DemuxFault}
@@ -8,12 +8,12 @@ use Rattle.ts_demux.specs.declared.demuxed.PesUnit.{PesUnit}
 use Rattle.ts_demux.specs.CarriedPackets.{StandsAt}
 use Rattle.ts_demux.specs.Demux.{IsFirstStreamFault}
 use Rattle.ts_demux.specs.PacketBuffer.{IsAtEnd, Passes}
-use Rattle.ts_demux.specs.Pass.{IsEarly, IsWhole}
+use Rattle.ts_demux.specs.Pass.{IsEarly}
 use Rattle.ts_demux.proofs.PassSteps.{next_count, next_piece, next_within, passes_filled, passes_packet, passes_size}
 use Rattle.ts_demux.proofs.Passing.{passes_none}
 use Rattle.pes_passing.specs.declared.open_packet.OpenPacket.{OpenPacket}
 use Rattle.pes_passing.specs.declared.passing_packets.PassingPackets.{PassingPackets}
-use Rattle.pes_passing.specs.PassingPackets.{Goes, HasPassed, open_of, pids_of, StandsAtEnd, StandsIn}
+use Rattle.pes_passing.specs.PassingPackets.{Goes, HasPassed, open_of, pids_of, StandsIn}
 use Rattle.pes_passing.specs.Private.OpenPacket.{ended_behind}
 use Rattle.pes_passing.proofs.Standing.{all_at_end, stands_turned}
 
@@ -96,12 +96,15 @@ refused_early left mid after most most_mid most_after held held_after ended old 
 -- the source has ended
 pub all_passed : (left mid after : Option (List ℕ)) (most most_mid most_after : ℕ) (held held_after : List ℕ) (ended : List PesUnit) (packets : PassingPackets)
     → HasPassed left mid most most_mid held ended packets → Passes mid after most_mid most_after held [] held_after → length held_after < 188 → IsAtEnd after → packets.pes.begun ≡ None
-    → IsWhole left after most most_after held_after (λ file. StandsAtEnd file ended packets)
+    → Goes false left after most most_after held_after ended packets
 all_passed left mid after most most_mid most_after held held_after ended packets was filled short end turned = record {
   seen = was.seen;
   passes = passes_filled left mid after most most_mid most_after was.seen held held_after was.passes filled;
   end = end;
-  whole = all_at_end was.seen held_after ended packets was.count short turned (was.every held_after);
+  whole = (
+    all_at_end was.seen held_after ended packets was.count short turned (was.every held_after),
+    omega (arith, was.count, length-append was.seen held_after),
+  );
 }
 
 -- a packet that has ended is held

@@ -107,6 +107,7 @@ all_at_end seen rest ended packets count short turned was =
       split = subst (λ (n : ℕ). AreSplit (packets_before (seen ++ rest) was.pid n) ended packets.pes.held) end
           (subst (λ (last : Option PesUnit). AreSplit (packets_before (seen ++ rest) was.pid packets.read) ended last) held_is was.split);
       count_is = was.count_is;
+      few = was.few;
       few_bytes = few_bytes;
     }
 

@@ -1,5 +1,5 @@
 -- The PES packets of a stream of a file that have passed, and the one that is open (ISO/IEC 13818-1, 2.4.3.3).
-use Rattle.std.specs.Prelude.{◌≡◌, ℕ, ◌*◌, ◌<◌, ◌≤◌, Bool, true, false, List, [], ◌∷◌, ◌++◌, length, slice_get, Option, Some, None}
+use Rattle.std.specs.Prelude.{◌≡◌, ℕ, ◌+◌, ◌*◌, ◌<◌, ◌≤◌, Bool, true, false, List, [], ◌∷◌, ◌++◌, length, slice_get, Option, Some, None}
 use Rattle.std.specs.List.{sum_by}
 use Rattle.std.specs.Option.{option_to_list}
 use Rattle.stream_constants.specs.declared.packets.TheConstants.{PACKET_BYTES}
@@ -94,10 +94,13 @@ pub record StandsAtEnd (file : List ℕ) (ended : List PesUnit) (packets : Passi
   pub pid_is : slice_get (pids_of packets) packets.index ≡ Some pid
   pub split : AreSplit (packets_before file pid (piece_count file)) ended (held_of packets)
   pub count_is : count_of packets ≡ length ended
+  pub few : length ended ≤ packets.read
   pub few_bytes : size_of (ended ++ option_to_list (held_of packets)) ≤ PACKET_BYTES * packets.read
 
--- what comes of a step: one PES packet more has ended, which is held; or the source has, and the held one is the last
+-- what comes of a step: one PES packet more has ended, which is held; or the source has, the held one is the last, and the bytes behind the last transport packet
+-- are those that the buffer holds
 abbrev pub Goes : (more : Bool) → (left left_after : Option (List ℕ)) → (most most_after : ℕ) → (held : List ℕ) → (ended : List PesUnit) → PassingPackets → Type 0
 Goes true left left_after most most_after held ended packets =
     (packet : PesUnit) × (held_of packets ≡ Some packet) × HasPassed left left_after most most_after held (ended ++ packet ∷ []) packets
-Goes false left left_after most most_after held ended packets = IsWhole left left_after most most_after held (λ file. StandsAtEnd file ended packets)
+Goes false left left_after most most_after held ended packets =
+    IsWhole left left_after most most_after held (λ file. StandsAtEnd file ended packets × (length file ≡ PACKET_BYTES * packets.read + length held))

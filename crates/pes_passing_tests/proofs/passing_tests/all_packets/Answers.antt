@@ -65,8 +65,8 @@ returns-then-not-more g c =
       passes = goes.passes;
       end = goes.end;
       whole = (
-        goes.whole.pid,
-        sym (ap (λ (ps : List ℕ). slice_get ps c.args.index) pids) ∙ sym (ap (slice_get (pids_of c.next.new.self)) index) ∙ goes.whole.pid_is,
-        c.in-Ok-push_copy.ensures ∙ ap (λ (packet : Option PesUnit). units ++ option_to_list packet) c.packet.ensures ∙ sym goes.whole.split.packets,
+        goes.whole.0.pid,
+        sym (ap (λ (ps : List ℕ). slice_get ps c.args.index) pids) ∙ sym (ap (slice_get (pids_of c.next.new.self)) index) ∙ goes.whole.0.pid_is,
+        c.in-Ok-push_copy.ensures ∙ ap (λ (packet : Option PesUnit). units ++ option_to_list packet) c.packet.ensures ∙ sym goes.whole.0.split.packets,
       );
     }

@@ -1,0 +1,2 @@
+pub mod PassedVideo
+pub mod Private

@@ -1,0 +1,190 @@
+//! Videos, out of sources that give the file in pieces.
+ghost use Rattle.std.specs.Prelude.{◌≡◌, ◌≤◌, length};
+
+use arrayvec::ArrayVec;
+use job_report::Form;
+use program_maker::make_program;
+use program_pass::{ReadFault, read_video};
+use program_reader::{Program, ProgramFault, SizesWanted, SourceKind, WalkedVideo, read_program};
+use psi_tables::Stream;
+use shelf_io::Reading;
+use shelf_kinds::{CalmShelf, ShortShelf};
+use std::alloc::{AllocError, Global};
+use std::test::Fail;
+use stream_constants::packets::{PACKET_BYTES, SYNC_BYTE};
+use ts_demux::{DemuxFault, PacketBuffer, PassFault};
+
+/// How many bytes a call gives at most: one, parts of a packet, and the whole file.
+const GIVEN: [u32; 5] = [1, 187, 188, 189, 4_000_000_000];
+
+const VIDEO_PID: u16 = 257;
+
+const AUDIO_PID: u16 = 258;
+
+/// A stream of this PID.
+fn stream_of(pid: u16) -> Stream
+    ensures { result.pid ≡ pid }
+{
+    Stream {
+        kind: 0,
+        pid,
+        descriptors: ArrayVec::new(),
+    }
+}
+
+/// The video of a file with an audio stream beside it, out of a source that gives so many bytes a call.
+fn video_of(
+    alloc: Global,
+    file: &[u8],
+    given: u32,
+) -> Result<Result<WalkedVideo, ReadFault>, Fail> {
+    let mut inner = CalmShelf::new(alloc);
+    inner.put_file("a", file)?;
+    let mut shelf = ShortShelf::new(inner, given.max(1));
+    let mut source = Reading::new(&mut shelf, "a");
+    let mut buffer = PacketBuffer::new(vec![in alloc; 0u8; PACKET_BYTES]?);
+    let streams = [stream_of(VIDEO_PID), stream_of(AUDIO_PID)];
+    let wanted = SizesWanted {
+        are_wanted: false,
+        coarser: &[],
+    };
+    Ok(read_video(alloc, &mut buffer, &mut source, &streams, wanted))
+}
+
+/// True where a video has the units of a program, in the same places and with the same times, kinds and roles.
+fn has_units_of(video: &WalkedVideo, program: &Program) -> bool {
+    let same = video
+        .units
+        .as_slice()
+        .iter()
+        .zip(program.units.as_slice())
+        .all(|(unit, source)| {
+            unit.begin == source.begin
+                && unit.end == source.end
+                && unit.times == source.times
+                && unit.kind == source.kind
+                && unit.role == source.role
+        });
+    same && video.units.len() == program.units.len()
+        && video.units_dropped == program.units_dropped
+        && video.pes_dropped == program.pes_dropped
+}
+
+/// True where so many units are decoded 3,600 units of 1/90,000 s behind each other, the first at 1 s.
+fn are_in_time(video: &WalkedVideo, count: usize) -> bool {
+    let mut ticks = 27_000_000i64;
+    for unit in video.units.as_slice() {
+        if unit.ticks != ticks {
+            return false;
+        }
+        ticks = ticks.wrapping_add(1_080_000);
+    }
+    video.units.len() == count && video.first.ticks == 27_000_000
+}
+
+#[test]
+fn a_program_whatever_a_call_gives(rt: HostRuntime) -> Result<(), Fail> {
+    let file = make_program(rt.alloc(), 1, 6)?;
+    let whole = read_program(rt.alloc(), file.as_slice(), Form::Ts, 1, &[], 0)?;
+    for given in GIVEN {
+        let video = video_of(rt.alloc(), file.as_slice(), given)??;
+        assert!(rt; has_units_of(&video, &whole));
+        assert!(rt; are_in_time(&video, 6));
+        assert_eq!(rt; (video.units_dropped, video.pes_dropped), (0, 0));
+    }
+    Ok(())
+}
+
+/// Where the last packet of the video stands in a file.
+fn last_video_packet(file: &[u8]) -> usize
+    ensures { result ≤ length file.now }
+{
+    let [high, low] = VIDEO_PID.to_be_bytes();
+    let mut last = 0usize;
+    let mut at = 0usize;
+    while at + PACKET_BYTES <= file.len() {
+        if file[at + 1] & 0x1F == high && file[at + 2] == low {
+            last = at;
+        }
+        at += PACKET_BYTES;
+    }
+    last
+}
+
+/// The last picture has no end then, and is dropped.
+#[test]
+fn a_file_that_ends_within_its_last_packet(rt: HostRuntime) -> Result<(), Fail> {
+    let file = make_program(rt.alloc(), 1, 6)?;
+    let last = last_video_packet(file.as_slice());
+    for rest in [0, 100] {
+        let cut = file.as_slice().get(..last + rest).unwrap_or(&[]);
+        let whole = read_program(rt.alloc(), cut, Form::Ts, 1, &[], 0)?;
+        for given in [187, 189] {
+            let video = video_of(rt.alloc(), cut, given)??;
+            assert!(rt; has_units_of(&video, &whole));
+            assert!(rt; are_in_time(&video, 5));
+            assert_eq!(rt; video.units_dropped, 1);
+        }
+    }
+    Ok(())
+}
+
+/// A packet of a PID, which begins a PES packet or goes on with one; each byte of its payload is this one.
+fn packet(pid: u16, start: bool, counter: u8, byte: u8) -> [u8; PACKET_BYTES] {
+    let [high, low] = pid.to_be_bytes();
+    let flag = if start { 0x40 } else { 0 };
+    let mut bytes = [byte; PACKET_BYTES];
+    bytes[0] = SYNC_BYTE;
+    bytes[1] = flag | high;
+    bytes[2] = low;
+    bytes[3] = 0x10 | counter;
+    bytes
+}
+
+/// A packet of no stream, a PES packet of the video that is none, one of the audio, and the video's next one.
+fn refused_file(alloc: Global) -> Result<Vec<u8>, AllocError> {
+    let mut file = Vec::new(alloc);
+    for packet in [
+        packet(17, true, 0, 0xEE),
+        packet(VIDEO_PID, true, 1, 0xA1),
+        packet(AUDIO_PID, true, 7, 0xC7),
+        packet(VIDEO_PID, true, 2, 0xA2),
+    ] {
+        file.extend_from_slice(&packet)?;
+    }
+    Ok(file)
+}
+
+/// A fault of a transport packet, of the audio too, comes before the video's, wherever it stands.
+#[test]
+fn the_first_refusal(rt: HostRuntime) -> Result<(), Fail> {
+    let mut file = refused_file(rt.alloc())?;
+    let video = video_of(rt.alloc(), file.as_slice(), 189)?;
+    assert_eq!(rt;
+        video.err(),
+        Some(ReadFault::Refused(ProgramFault::Refused {
+            kind: SourceKind::BadPrefix,
+            at: 188
+        }))
+    );
+    file.extend_from_slice(&packet(AUDIO_PID, true, 9, 0xC9))?;
+    let packets = video_of(rt.alloc(), file.as_slice(), 189)?;
+    assert_eq!(rt;
+        packets.err(),
+        Some(ReadFault::Passing(PassFault::Refused(DemuxFault::Gap { at: 752 })))
+    );
+    Ok(())
+}
+
+#[test]
+fn a_file_without_a_packet_of_the_video(rt: HostRuntime) -> Result<(), Fail> {
+    let video = video_of(rt.alloc(), &packet(17, true, 0, 0xEE), 188)?;
+    assert_eq!(rt;
+        video.err(),
+        Some(ReadFault::Refused(ProgramFault::Refused {
+            kind: SourceKind::NoSequence,
+            at: 0
+        }))
+    );
+    Ok(())
+}
