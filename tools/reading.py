@@ -1,4 +1,4 @@
-"""Transport streams and their pictures, read by the standards alone (ISO/IEC 13818-1, 13818-2), for the scripts of tools/ and tests/."""
+"""Transport streams, the video of program streams, and pictures, read by the standards alone (ISO/IEC 13818-1, 13818-2), for the scripts of tools/ and tests/."""
 
 PACKET = 188
 ROUND = 300 << 33  # ticks in which the clock of a PCR goes round
@@ -104,6 +104,22 @@ class Reading:
         time = lambda at: (head[at] >> 1 & 7) << 30 | (head[at + 1] << 8 | head[at + 2]) >> 1 << 15 | (head[at + 3] << 8 | head[at + 4]) >> 1
         if head[7] & 0x80:
             self.stated.append((len(self.es), time(9), time(14) if head[7] & 0x40 else time(9)))
+
+
+def video_of_elements(stream):
+    """The first video stream of a program stream, its packets' bytes behind their headers (13818-1, 2.5.3)."""
+    es, video, at = bytearray(), None, stream.find(b"\0\0\1")
+    while 0 <= at < len(stream) - 14:
+        code, size = stream[at + 3], 6 + int.from_bytes(stream[at + 4 : at + 6], "big")
+        if code == 0xB9:
+            size = 4
+        elif code == 0xBA:
+            size = 14 + (stream[at + 13] & 7)
+        elif 0xE0 <= code <= 0xEF and video in (None, code):
+            video = code
+            es += stream[at + 9 + stream[at + 8] : at + size]
+        at = stream.find(b"\0\0\1", at + size)
+    return es
 
 
 # ---- pictures

@@ -7,7 +7,7 @@ ghost use Rattle.command_words.specs.declared.status.Status.{Status as AnyStatus
 use crate::exit::exit_status;
 use crate::heard::HeardSink;
 use crate::progress::{Progress, Row, Watch};
-use crate::watched::WatchedShelf;
+use crate::watched::{RunFiles, WatchedShelf};
 use sentences::{End, SentPictures, print_sentence};
 use shelf_kinds::{FileShelf, OutSink};
 use std::rt::{Clock, Files};
@@ -28,7 +28,7 @@ pub fn command<R: Files + Clock + Print + Eprint + AllocGlobal>(
     let mut shelf = WatchedShelf::new(
         FileShelf::new(rt),
         Watch::new(rt, progress),
-        stream_of(words),
+        files_of_run(words),
         SentPictures::new(rt.alloc()),
     );
     let code = exit_status(rt.alloc(), words, &mut shelf, &mut out);
@@ -43,10 +43,13 @@ pub fn command<R: Files + Clock + Print + Eprint + AllocGlobal>(
     code
 }
 
-/// The file to which a run writes its stream; an empty name where these are other words.
-fn stream_of(words: &[String]) -> &str {
+/// The files of a run.
+fn files_of_run(words: &[String]) -> RunFiles<'_> {
     match words {
-        [verb, _, out, _] if verb.as_str() == "run" => out.as_str(),
-        _ => "",
+        [verb, job, out, _] if verb.as_str() == "run" => RunFiles {
+            job: job.as_str(),
+            out: out.as_str(),
+        },
+        _ => RunFiles { job: "", out: "" },
     }
 }

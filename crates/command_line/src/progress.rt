@@ -1,5 +1,6 @@
 //! How far a command is, told on a terminal while it works.
 
+use sentences::stream_bytes;
 use std::fs;
 use std::rt::{Clock, Files};
 use std::time::Instant;
@@ -46,11 +47,14 @@ pub(crate) struct Watch<'a, R> {
     pace: Pace,
     /// Bytes of the file that is read.
     size: u64,
-    /// Bytes that were written to the file that was started last.
+    /// Bytes that were written to the file that was started last, when that was in milliseconds, and about how many bytes it gets; 0 where
+    /// that isn't known.
     written: u64,
+    started: u64,
+    wanted: u64,
 }
 
-impl<'a, R: Files + Clock + Eprint> Watch<'a, R> {
+impl<'a, R: Files + Clock + Eprint + AllocGlobal> Watch<'a, R> {
     /// Before a command.
     pub(crate) fn new(rt: &'a R, progress: Progress) -> Watch<'a, R> {
         let begun = match progress {
@@ -63,6 +67,8 @@ impl<'a, R: Files + Clock + Eprint> Watch<'a, R> {
             pace: Pace::new(),
             size: 0,
             written: 0,
+            started: 0,
+            wanted: 0,
         }
     }
 
@@ -86,9 +92,17 @@ impl<'a, R: Files + Clock + Eprint> Watch<'a, R> {
         }
     }
 
-    /// A file was started.
-    pub(crate) fn see_start(&mut self) {
+    /// A file is started: that of the stream of a job, or another one, and then the name is empty.
+    pub(crate) fn see_start(&mut self, job: &str) {
+        let Some(millis) = self.millis() else {
+            return;
+        };
         self.written = 0;
+        self.started = millis;
+        self.wanted = match job {
+            "" => 0,
+            job => stream_bytes(self.rt, job).unwrap_or(0),
+        };
     }
 
     /// So many bytes were added to the file that was started.
@@ -98,10 +112,30 @@ impl<'a, R: Files + Clock + Eprint> Watch<'a, R> {
         };
         self.written = self.written.saturating_add(count as u64);
         if self.pace.may_go_on(millis) {
-            let done = self.written / 1_000_000;
-            let seconds = millis / 1_000;
-            let _ = eprint!(self.rt; "{CLEARED}{name}: {done} MB written ({seconds} s)");
+            self.tell_written(name, millis);
         }
+    }
+
+    /// Tells how much of a file is written, of how much and with the time left, where that is known.
+    fn tell_written(&self, name: &str, millis: u64) {
+        let done = self.written / 1_000_000;
+        let seconds = millis / 1_000;
+        let Some(left) = self.millis_left(millis) else {
+            let _ = eprint!(self.rt; "{CLEARED}{name}: {done} MB written ({seconds} s)");
+            return;
+        };
+        let all = self.wanted / 1_000_000;
+        let left = left.div_ceil(1_000);
+        let _ = eprint!(self.rt;
+            "{CLEARED}{name}: {done} of about {all} MB written, about {left} s left ({seconds} s)"
+        );
+    }
+
+    /// In how many milliseconds the rest of the file is written, at the pace so far; none where it isn't known how long it gets.
+    fn millis_left(&self, millis: u64) -> Option<u64> {
+        let rest = self.wanted.checked_sub(self.written)?;
+        let spent = millis.saturating_sub(self.started);
+        spent.saturating_mul(rest).checked_div(self.written)
     }
 
     /// Milliseconds since the command began; none where nothing is told.

@@ -5,6 +5,15 @@ use sentences::SentPictures;
 use shelf_io::{Fault, Shelf};
 use std::rt::{Clock, Files};
 
+/// The files of a run; both names are empty where the words are those of another command.
+#[derive(Clone, Copy)]
+pub(crate) struct RunFiles<'a> {
+    /// Its job.
+    pub(crate) job: &'a str,
+    /// The file to which it writes its stream.
+    pub(crate) out: &'a str,
+}
+
 /// A shelf that hands each call on to another one, tells how far the command is, and keeps the types of the pictures that are written
 /// to OUT.
 #[derive(Drop)]
@@ -13,19 +22,19 @@ pub(crate) struct WatchedShelf<'a, R, K> {
     seen: Seen<'a, R>,
 }
 
-impl<'a, R: Files + Clock + Eprint, K: Shelf> WatchedShelf<'a, R, K> {
-    /// A shelf before any call, and the file whose pictures are wanted.
+impl<'a, R: Files + Clock + Eprint + AllocGlobal, K: Shelf> WatchedShelf<'a, R, K> {
+    /// A shelf before any call, and the files of the run, whose pictures are wanted.
     pub(crate) fn new(
         shelf: K,
         watch: Watch<'a, R>,
-        out: &'a str,
+        files: RunFiles<'a>,
         pictures: SentPictures,
     ) -> WatchedShelf<'a, R, K> {
         WatchedShelf {
             shelf,
             seen: Seen {
                 watch,
-                out,
+                files,
                 pictures,
             },
         }
@@ -37,7 +46,7 @@ impl<'a, R: Files + Clock + Eprint, K: Shelf> WatchedShelf<'a, R, K> {
     }
 }
 
-impl<'a, R: Files + Clock + Eprint, K: Shelf> Shelf for WatchedShelf<'a, R, K> {
+impl<'a, R: Files + Clock + Eprint + AllocGlobal, K: Shelf> Shelf for WatchedShelf<'a, R, K> {
     ghost files = { λ watched. K.files watched.shelf };
 
     ghost counts = { λ watched. K.counts watched.shelf };
@@ -57,7 +66,7 @@ impl<'a, R: Files + Clock + Eprint, K: Shelf> Shelf for WatchedShelf<'a, R, K> {
     }
 
     fn start(&mut self, name: &str) -> Result<(), Fault> {
-        self.seen.watch.see_start();
+        self.seen.see_start(name);
         self.shelf.start(name)
     }
 
@@ -76,18 +85,27 @@ impl<'a, R: Files + Clock + Eprint, K: Shelf> Shelf for WatchedShelf<'a, R, K> {
 #[derive(Drop)]
 struct Seen<'a, R> {
     watch: Watch<'a, R>,
-    /// The file to which a run writes its stream.
-    out: &'a str,
+    files: RunFiles<'a>,
     pictures: SentPictures,
 }
 
-impl<'a, R: Files + Clock + Eprint> Seen<'a, R> {
+impl<'a, R: Files + Clock + Eprint + AllocGlobal> Seen<'a, R> {
+    /// A file is started: of OUT the job tells how long it gets.
+    fn see_start(&mut self, name: &str) {
+        let job = if name == self.files.out {
+            self.files.job
+        } else {
+            ""
+        };
+        self.watch.see_start(job);
+    }
+
     /// The first bytes of a piece were added to a file.
     fn see_append(&mut self, name: &str, piece: &[u8], count: usize)
         requires { count ≤ length piece.now }
     {
         self.watch.see_append(name, count);
-        if name == self.out {
+        if name == self.files.out {
             self.pictures.hear(&piece[..count]);
         }
     }

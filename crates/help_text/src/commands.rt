@@ -26,7 +26,7 @@ const RUN: &str = "remux run JOB OUT CERT
 Plans the programs that JOB names, writes their stream of constant rate to OUT and a certificate of the plan to CERT.
 
 Files:
-  JOB   is read: the text of a job, which names transport streams that are read too (docs/JOB.md)
+  JOB   is read: the text of a job, which names files with programs that are read too (docs/JOB.md)
   OUT   is written: a transport stream of 188-byte packets (docs/OUTPUT.md)
   CERT  is written once OUT is whole: the certificate of the plan (docs/CERTIFICATE.md)
 
@@ -54,7 +54,7 @@ const CHECK: &str = "remux check JOB CERT
 Reads the programs of a job again, and checks that the certificate in CERT shows its bound for them.
 
 Files:
-  JOB   is read: the text of the job, and the transport streams that it names (docs/JOB.md)
+  JOB   is read: the text of the job, and the files with programs that it names (docs/JOB.md)
   CERT  is read: the certificate that `remux run` wrote (docs/CERTIFICATE.md)
 
 Prints one line of JSON: bound, verdict.
@@ -79,7 +79,7 @@ const FIT: &str = "remux fit JOB LIST
 Tells in which of the slots in LIST, so at which rates, the programs that JOB names fit in their smallest versions.
 
 Files:
-  JOB   is read: the text of the job, and the transport streams that it names (docs/JOB.md)
+  JOB   is read: the text of the job, and the files with programs that it names (docs/JOB.md)
   LIST  is read: a line for each slot, 64 at most, each a number of ticks from 1016 to 40000 and greater than the one
         before
 

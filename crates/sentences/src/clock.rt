@@ -1,4 +1,4 @@
-//! The time of a place in a transport stream, by the clocks that stand before it.
+//! The time of a place in a stream, by the clocks that stand before it.
 
 use shelf_io::Shelf;
 use shelf_kinds::FileShelf;
@@ -74,6 +74,38 @@ pub(crate) fn span_to<R: Files>(rt: &R, name: &str, pid: u64, at: u64) -> Option
         }
     }
     None
+}
+
+/// How many ticks the last clock of a program stream of so many bytes shows more than its first one; none where its ends have none.
+pub(crate) fn pack_ticks<R: Files>(rt: &R, name: &str, bytes: u64) -> Option<u64> {
+    let mut shelf = FileShelf::new(rt);
+    let mut room = [0u8; PIECE_BYTES];
+    let Ok(count) = shelf.read(name, 0, &mut room) else {
+        return None;
+    };
+    let first = pack_clock_in(&room[..count], true)?;
+    let from = bytes.saturating_sub(PIECE_BYTES as u64);
+    let Ok(count) = shelf.read(name, from, &mut room) else {
+        return None;
+    };
+    let last = pack_clock_in(&room[..count], false)?;
+    Some(last.wrapping_add(ROUND).wrapping_sub(first) % ROUND)
+}
+
+/// The first or last clock of the pack headers of a piece (13818-1, 2.5.3.3), in ticks, without its extension.
+fn pack_clock_in(piece: &[u8], is_first: bool) -> Option<u64> {
+    let mut found = None;
+    for at in 0..piece.len() {
+        if let [0, 0, 1, 0xba, a, b, c, d, e, ..] = &piece[at..] {
+            let field = u64::from_be_bytes([0, 0, 0, *a, *b, *c, *d, *e]);
+            let base = (field >> 35 & 7) << 30 | (field >> 19 & 0x7fff) << 15 | field >> 3 & 0x7fff;
+            found = Some(base.wrapping_mul(300));
+            if is_first {
+                break;
+            }
+        }
+    }
+    found
 }
 
 /// The first clock of a PID in a piece, and its packet's number there.

@@ -1,10 +1,10 @@
 //! What is said of the slots in which a job fits, and of those in which it misses.
 
-use crate::amounts::{Milliseconds, Rate};
+use crate::amounts::Rate;
 use crate::job_again::job_table;
+use crate::lateness::{Miss, late_in_words};
 use crate::line::{End, list, number, text};
 use crate::owners::{Owner, owner_in_words, owners_of_job};
-use dual_bounds::constants::MARGIN_TICKS;
 use serde_json::Value;
 use std::alloc::{AllocError, Global};
 use std::rt::Files;
@@ -88,10 +88,15 @@ fn miss(alloc: Global, owners: &[Owner<'_>], said: &Value) -> Result<String, All
         "missed" => {
             let stream = number(said, "stream");
             let owner = owner_in_parentheses(alloc, owners, stream)?;
+            let miss = Miss {
+                length: slot,
+                slot: number(said, "packet_slot"),
+                due: number(said, "due"),
+            };
+            let late = late_in_words(alloc, miss)?;
             format!(in alloc;
-                "; in slots of {slot} ticks, {rate} Mbit/s, unit {unit} of stream {stream}{owner} comes {late} ms late at least",
-                unit = number(said, "unit"),
-                late = lateness(slot, said)
+                "; in slots of {slot} ticks, {rate} Mbit/s, unit {unit} of stream {stream}{owner} {late}",
+                unit = number(said, "unit")
             )
         }
         "limit" => format!(in alloc;
@@ -112,15 +117,4 @@ fn owner_in_parentheses(
         return Ok(owner);
     }
     format!(in alloc; " ({owner})")
-}
-
-/// By how much the packet of a miss comes late at least: it isn't there a margin behind the end of its packet slot.
-fn lateness(slot: u64, said: &Value) -> Milliseconds {
-    let end = number(said, "packet_slot")
-        .saturating_add(1)
-        .saturating_mul(slot)
-        .saturating_add(MARGIN_TICKS);
-    Milliseconds {
-        ticks: end.saturating_sub(number(said, "due")),
-    }
 }

@@ -1,4 +1,4 @@
-//! What is said where the stream of a run lasts longer than its pictures: the times of a source jump forward.
+//! What is said where the pictures of a run pause, or its stream lasts longer than they do: the times of a source jump forward.
 
 use crate::amounts::Seconds;
 use crate::first_header::first_header;
@@ -6,16 +6,60 @@ use crate::job_again::{file_of, form_of, integer};
 use crate::line::{End, list, number};
 use job_report::limits::START_DEFAULT;
 use serde_json::Value;
-use std::alloc::AllocError;
+use std::alloc::{AllocError, Global};
 use std::rt::Files;
 use stream_constants::clock::TICKS_PER_SECOND;
 use toml::Table;
 
+/// How long the pictures of a program may pause, in ticks.
+const PAUSE_MOST: u64 = TICKS_PER_SECOND;
+
 /// How long OUT may last beyond its pictures, in ticks: a second, and one for audio behind the last picture and the end of a period.
 const BEYOND_MOST: u64 = 2 * TICKS_PER_SECOND;
 
-/// That OUT lasts longer than the pictures of any of its programs; none where it doesn't.
+/// Which programs have no picture for longer than a second; else that OUT lasts longer than the pictures of any of its programs. None where
+/// neither is so.
 pub(crate) fn long_waits<R: Files + AllocGlobal>(
+    rt: &R,
+    end: &End<'_>,
+    line: &Value,
+    table: &Table,
+) -> Result<Option<String>, AllocError> {
+    match long_pauses(rt.alloc(), end, line)? {
+        Some(said) => Ok(Some(said)),
+        None => long_end(rt, end, line, table),
+    }
+}
+
+/// Which programs have no picture for longer than a second, and where; none where none has.
+fn long_pauses(alloc: Global, end: &End<'_>, line: &Value) -> Result<Option<String>, AllocError> {
+    let mut said = String::new(alloc);
+    for (at, program) in list(line, "programs").iter().enumerate() {
+        match end.pictures.pause_of(at) {
+            Some(pause) if pause.ticks > PAUSE_MOST => {
+                let one = format!(in alloc;
+                    "program number {number} has no picture for {lasting} s before its picture {picture} from 0; ",
+                    number = number(program, "number"),
+                    lasting = Seconds { ticks: pause.ticks },
+                    picture = pause.picture
+                )?;
+                said.push_str(one.as_str())?;
+            }
+            _ => {}
+        }
+    }
+    if said.is_empty() {
+        return Ok(None);
+    }
+    let out = end.word(2);
+    let whole = format!(in alloc;
+        "{out}: {said}the times of its source jump forward there, and {out} has null packets meanwhile"
+    )?;
+    Ok(Some(whole))
+}
+
+/// That OUT lasts longer than the pictures of any of its programs; none where it doesn't.
+fn long_end<R: Files + AllocGlobal>(
     rt: &R,
     end: &End<'_>,
     line: &Value,

@@ -1,5 +1,5 @@
 //! What is said to people on standard error about how a command ended: a sentence for each exit status but 0, and for 0 where
-//! something went out otherwise than a reader may think.
+//! something went out otherwise than a reader may think. And about how long a stream will be, for who waits for it.
 //!
 //! It is made of the words of the command, the exit status, the line that was printed and the types of the pictures that were sent, so that
 //! no other crate knows of it. Where a sentence wants more, the text of the job or table and the file that was refused are read once more.
@@ -25,6 +25,8 @@ mod fitted;
 mod job_again;
 mod jumps;
 mod kinds;
+mod lateness;
+mod length;
 mod limits;
 mod line;
 mod misses;
@@ -37,6 +39,7 @@ mod sources;
 mod table_again;
 mod texts;
 
+pub use crate::length::stream_bytes;
 pub use crate::line::End;
 pub use crate::print::print_sentence;
 pub use crate::sent_pictures::SentPictures;

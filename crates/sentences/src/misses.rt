@@ -2,10 +2,12 @@
 
 use crate::amounts::Seconds;
 use crate::buffers::small_buffers;
-use crate::job_again::job_table;
+use crate::job_again::{integer, job_table};
+use crate::lateness::{Miss, late_in_words};
 use crate::line::{End, number};
 use crate::owners::{owner_in_words, owners_of_job, owners_of_table};
 use crate::sources::CODE;
+use crate::table_again::table_again;
 use serde_json::Value;
 use std::alloc::{AllocError, Global};
 use std::rt::Files;
@@ -28,9 +30,10 @@ pub(crate) fn unschedulable<R: Files + AllocGlobal>(
         help_of_job(rt, end)?
     };
     let owner = owner(rt, end, number(line, "stream"))?;
+    let late = lateness(rt, end, line)?;
     format!(in alloc;
         "{text}: not even the smallest versions are scheduled: unit {unit} of stream {stream} ({owner}counted from 0, over all programs), due \
-         at {due} s, tick {ticks}, misses in slot {slot}; {help}",
+         at {due} s, tick {ticks}, misses in slot {slot}{late}; {help}",
         text = end.word(1),
         unit = number(line, "unit"),
         stream = number(line, "stream"),
@@ -40,6 +43,41 @@ pub(crate) fn unschedulable<R: Files + AllocGlobal>(
         ticks = number(line, "due"),
         slot = number(line, "slot")
     )
+}
+
+/// When the slot of a miss ends, and by how much the packet comes late; nothing where it isn't known any more how long slots are.
+fn lateness<R: Files + AllocGlobal>(
+    rt: &R,
+    end: &End<'_>,
+    line: &Value,
+) -> Result<String, AllocError> {
+    let miss = Miss {
+        length: slot_length(rt, end),
+        slot: number(line, "slot"),
+        due: number(line, "due"),
+    };
+    if miss.length == 0 {
+        return Ok(String::new(rt.alloc()));
+    }
+    let late = late_in_words(rt.alloc(), miss)?;
+    format!(in rt.alloc();
+        ", which ends at {seconds} s, so it {late}",
+        seconds = Seconds { ticks: miss.end() }
+    )
+}
+
+/// Ticks of a slot, as the job or the table has them, which is read once more; 0 where it can't be.
+fn slot_length<R: Files + AllocGlobal>(rt: &R, end: &End<'_>) -> u64 {
+    if end.word(0) == "plan" {
+        return match table_again(rt, end.word(1)) {
+            Some(table) => u64::from(table.slot),
+            None => 0,
+        };
+    }
+    match job_table(rt, end.word(1)) {
+        Some(table) => integer(&table, "slot", 0),
+        None => 0,
+    }
 }
 
 /// Which program a stream is of, before a semicolon; nothing where that isn't known.

@@ -1,6 +1,9 @@
-//! The types of the pictures that a run sends, by the bytes that it writes: its line has the version of each picture and not its type.
+//! The types of the pictures that a run sends, and where they pause, by the bytes that it writes: its line has the version of each picture, and
+//! neither its type nor its time.
 
+use pes_units::PesHeader;
 use std::alloc::{AllocError, Global};
+use stream_constants::clock::TICKS_PER_TIME_UNIT;
 use stream_constants::limits::PROGRAMS_MOST;
 use stream_constants::packets::PACKET_BYTES;
 use stream_constants::start_codes::PICTURE;
@@ -11,6 +14,9 @@ const FIRST_VIDEO_PID: u16 = 0x101;
 
 /// PIDs of OUT from a program's video to the next one's.
 const PROGRAM_PIDS: u16 = 16;
+
+/// Times of PES headers before they begin anew: they have 33 bits (13818-1, 2.4.3.7).
+const ROUND: u64 = 1 << 33;
 
 /// What stands for the type of a picture while it isn't known: none has it.
 const NO_TYPE: u8 = 0;
@@ -56,6 +62,14 @@ impl SentPictures {
         }
     }
 
+    /// The longest pause between two pictures of a program, counted from 0; none where not all is known, or there are no two pictures with times.
+    pub(crate) fn pause_of(&self, program: usize) -> Option<Pause> {
+        match self.videos.get(program) {
+            Some(video) if self.is_whole => video.pause,
+            _ => None,
+        }
+    }
+
     /// Takes a packet: one of a video begins a picture, or goes on with it.
     fn hear_packet(&mut self, packet: &Packet<'_>) -> Result<(), AllocError> {
         let Some(program) = program_of(packet.pid) else {
@@ -68,7 +82,7 @@ impl SentPictures {
             return Ok(());
         };
         if packet.start {
-            video.begin_picture()?;
+            video.begin_picture(packet.payload)?;
         }
         video.go_on(packet.payload);
         Ok(())
@@ -91,10 +105,23 @@ fn program_of(pid: u16) -> Option<usize> {
     }
 }
 
+/// From one picture to the next one.
+#[derive(Clone, Copy)]
+pub(crate) struct Pause {
+    /// How long it lasts, in ticks.
+    pub(crate) ticks: u64,
+    /// The picture behind it, from 0.
+    pub(crate) picture: u64,
+}
+
 /// The pictures of a program.
 #[derive(Drop)]
 struct SentVideo {
     types: Vec<u8>,
+    /// The decoding time of the last picture that has one, in 1/90,000 s.
+    time: Option<u64>,
+    /// The longest pause.
+    pause: Option<Pause>,
     /// Looks for the type of the last picture, while that isn't known.
     finder: Option<TypeFinder>,
 }
@@ -104,15 +131,38 @@ impl SentVideo {
     fn new(alloc: Global) -> SentVideo {
         SentVideo {
             types: Vec::new(alloc),
+            time: None,
+            pause: None,
             finder: None,
         }
     }
 
-    /// A picture begins.
-    fn begin_picture(&mut self) -> Result<(), AllocError> {
+    /// A picture begins, and with it a PES packet.
+    fn begin_picture(&mut self, payload: &[u8]) -> Result<(), AllocError> {
+        if let Ok(header) = PesHeader::read(payload, true) {
+            if let Some(time) = header.times.dts.or(header.times.pts) {
+                self.see_time(time);
+            }
+        }
         self.types.push(NO_TYPE)?;
         self.finder = Some(TypeFinder::new());
         Ok(())
+    }
+
+    /// The next picture has a decoding time.
+    fn see_time(&mut self, time: u64) {
+        if let Some(last) = self.time {
+            let units = time.wrapping_sub(last) % ROUND;
+            let pause = Pause {
+                ticks: units.saturating_mul(TICKS_PER_TIME_UNIT),
+                picture: self.types.len() as u64,
+            };
+            self.pause = match self.pause {
+                Some(longest) if longest.ticks >= pause.ticks => Some(longest),
+                _ => Some(pause),
+            };
+        }
+        self.time = Some(time);
     }
 
     /// The last picture goes on.
