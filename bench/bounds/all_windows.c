@@ -4,63 +4,17 @@
  * Writes what each version costs over its picture's cheapest to PREFIX.costs, and to PREFIX.000 to PREFIX.060 the cheapest choices at prices raised by 0 to
  * 15 %. With CHOICE, a number a line, it writes a certificate to CERT, which `remux check-plan` then checks.
  * gcc -O2 -o all_windows all_windows.c -lm */
+#include "table.h"
 #include <math.h>
-#include <stdio.h>
-#include <stdlib.h>
-#include <string.h>
-typedef long long L;
 typedef __int128 LL;
-enum { PROGRAMS = 8, VERSIONS = 8, MOSTW = 4096 };
-typedef struct {
-    int program, count;
-    L due;
-    L bytes[VERSIONS], distortion[VERSIONS];
-} Unit;
-static Unit *unit;
-static int units, programs;
-static L slot, vbv[PROGRAMS], period;
-static int first_of[PROGRAMS + 1];
-static void read_table(const char *name) {
-    FILE *f = fopen(name, "r");
-    char *line = NULL;
-    size_t room = 0;
-    int capacity = 0;
-    if (!f) {
-        perror(name);
-        exit(1);
-    }
-    while (getline(&line, &room, f) > 0) {
-        if (sscanf(line, "slot %lld", &slot) == 1) continue;
-        if (!strncmp(line, "program ", 8)) {
-            first_of[programs] = units;
-            vbv[programs++] = atoll(line + 8);
-            continue;
-        }
-        if (!strncmp(line, "audio", 5)) {
-            fprintf(stderr, "no audio\n");
-            exit(1);
-        }
-        if (strncmp(line, "unit ", 5)) continue;
-        if (units == capacity) unit = realloc(unit, (capacity = capacity ? 2 * capacity : 1024) * sizeof *unit);
-        Unit *x = unit + units++;
-        char *at = line + 5;
-        x->program = programs - 1;
-        x->due = strtoll(at, &at, 10);
-        x->count = 0;
-        while (*at == ' ') {
-            x->bytes[x->count] = strtoll(at + 1, &at, 10);
-            x->distortion[x->count++] = strtoll(at + 1, &at, 10);
-        }
-        int n = 0;
-        for (int k = 0; k < x->count; k++)
-            if (x->bytes[k] > 2048 * vbv[x->program]) {
+enum { MOSTW = 4096 };
+static void refuse_large_versions(void) {
+    for (int u = 0; u < units; u++)
+        for (int k = 0; k < unit[u].count; k++)
+            if (unit[u].bytes[k] > 2048 * vbv[unit[u].program]) {
                 fprintf(stderr, "a version is larger than its buffer\n");
                 exit(1);
-            } else n++;
-    }
-    first_of[programs] = units;
-    fclose(f);
-    period = 1080000 / slot;
+            }
 }
 static L free_below(L x) {
     L r = 1 + 2 * programs, b = x % period - r;
@@ -413,6 +367,7 @@ static void put(FILE *f, unsigned long long v, int k) {
 }
 int main(int argc, char **argv) {
     read_table(argv[1]);
+    refuse_large_versions();
     touch_at = malloc((units + 1) * sizeof(int));
     X = malloc(units * VERSIONS * sizeof *X);
     order = malloc(units * sizeof *order);

@@ -4,22 +4,10 @@
  * what is left of its picture, is least, in place of the one that is due first: another rule, for which the windows hold as well. Of a table without audio. By
  * docs/SCHEDULE.md, nothing shared with ours.
  * gcc -O2 -o better_choice better_choice.c -lm */
+#include "table.h"
 #include <math.h>
-#include <stdio.h>
-#include <stdlib.h>
-#include <string.h>
 #include <time.h>
-typedef long long L;
-enum { PROGRAMS = 8, VERSIONS = 8 };
-typedef struct {
-    int program, count;
-    L due;
-    L bytes[VERSIONS], distortion[VERSIONS];
-} Unit;
-static Unit *unit;
-static int units, programs;
-static L slot, vbv[PROGRAMS], S, period;
-static int first_of[PROGRAMS + 1]; /* units of a program stand together, in the table's order */
+static L S; /* subticks of a slot */
 static double LAX;                 /* 0: by due; 14.4: by the least time that is left */
 typedef struct {
     int u, out_u;
@@ -185,44 +173,6 @@ static int run(int from, int valid, L last_due, int *end_mark, int *joined) {
     if (!*joined) *end_mark = k + 1;
     return ok;
 }
-static void read_table(const char *name) {
-    FILE *f = fopen(name, "r");
-    char *line = NULL;
-    size_t room = 0;
-    int capacity = 0;
-    if (!f) {
-        perror(name);
-        exit(1);
-    }
-    while (getline(&line, &room, f) > 0) {
-        if (sscanf(line, "slot %lld", &slot) == 1) continue;
-        if (!strncmp(line, "program ", 8)) {
-            first_of[programs] = units;
-            vbv[programs++] = atoll(line + 8);
-            continue;
-        }
-        if (!strncmp(line, "audio", 5)) {
-            fprintf(stderr, "no audio\n");
-            exit(1);
-        }
-        if (strncmp(line, "unit ", 5)) continue;
-        if (units == capacity) unit = realloc(unit, (capacity = capacity ? 2 * capacity : 1024) * sizeof *unit);
-        Unit *x = unit + units++;
-        char *at = line + 5;
-        x->program = programs - 1;
-        x->due = strtoll(at, &at, 10);
-        x->count = 0;
-        while (*at == ' ') {
-            x->bytes[x->count] = strtoll(at + 1, &at, 10);
-            x->distortion[x->count++] = strtoll(at + 1, &at, 10);
-        }
-    }
-    first_of[programs] = units;
-    fclose(f);
-    S = 940 * slot;
-    period = 1080000 / slot;
-}
-
 /* the last mark at which nothing of unit u went */
 static int mark_before(int u, int valid) {
     int p = unit[u].program, lo = 0, hi = valid;
@@ -256,6 +206,7 @@ static int by_due(const void *a, const void *b) {
 
 int main(int argc, char **argv) {
     read_table(argv[1]);
+    S = 940 * slot;
     if (argc > 6) LAX = 14.4;
     double seconds = atof(argv[3]);
     seed = 88172645463325252ULL + 7919 * atoll(argv[4]);
