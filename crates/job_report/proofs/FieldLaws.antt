@@ -55,6 +55,9 @@ pub left_out_right : (place : List ℕ) (entries : Members) (name : List ℕ) (h
     → refusals_of_field place entries (optional_field name has_type in_range) ≡ []
 left_out_right place entries name has_type in_range e = left_out place entries name has_type in_range (sym e)
 
+-- a field that isn't there
+pub ruleset not_there = (missing_tells, left_out_right)
+
 -- ---- what is stated, or the default
 
 pub stated_or-none : (default : Data) (name : List ℕ) (entries : Members) → None ≡ get_member name entries → stated_or default name entries ≡ default

@@ -1,4 +1,5 @@
 //! The fields of a table: each with what is wrong with it, or its value.
+#![tactic(auto, using(crate::proofs::FieldLaws::not_there))]
 
 ghost use Rattle.std.specs.Prelude.{◌≡◌, ◌≤◌, Some, IfOk, IfErr, [], length, map, codes, option_map};
 ghost use Rattle.toml.specs.Data.{string, get_member};

@@ -24,7 +24,7 @@ OneVerdict = (table : Table) (one other : Verdict) → IsSlotVerdict table one �
 -- ---- one more slot
 
 -- a place below the next one is below this one, or is it
-old_or_new : (k n : ℕ) → k < n + 1 → (k < n) ⊎ (k ≡ n)
+pub old_or_new : (k n : ℕ) → k < n + 1 → (k < n) ⊎ (k ≡ n)
 old_or_new k n lt = elim (cases_lt k n) as (λ _. (k < n) ⊎ (k ≡ n)) [
   | inl less ↦ inl less
   | inr more ↦ inr (omega (arith, lt, more))

@@ -8,7 +8,7 @@ use Rattle.rate_fit.specs.Fit.{AreVerdicts, IsSlotVerdict, in_slots}
 
 -- ---- the greatest slot
 
-above_start : (start : ℕ) (slots : List ℕ) → start ≤ fold max start slots
+pub above_start : (start : ℕ) (slots : List ℕ) → start ≤ fold max start slots
 above_start start [] = omega arith
 above_start start (slot ∷ slots) = omega (arith, above_start (max start slot) slots)
 

@@ -11,10 +11,10 @@ use Rattle.ts_demux.specs.declared.carried_packets.StreamPayload.{StreamPayload}
 use Rattle.ts_demux.specs.CarriedPackets.{carried_before, as_carried}
 use Rattle.ts_demux.specs.Private.PesGatherer.{last_of, gathered_of, longer, gathered_more, IsInOrder, Gathers}
 
-abbrev unit_of : Gathered → PesUnit
+abbrev pub unit_of : Gathered → PesUnit
 unit_of packet = record { at = packet.at; bytes = packet.bytes }
 
-abbrev units_of : List CarriedPayload → List PesUnit
+abbrev pub units_of : List CarriedPayload → List PesUnit
 units_of carried = map unit_of (gathered carried)
 
 -- ---- the bytes before the next start

@@ -5,7 +5,7 @@ ghost use Rattle.ts_packets.specs.TransportStream.{piece_at, piece_count, is_of_
 ghost use Rattle.psi_tables.specs.Sections.{sections_of};
 ghost use Rattle.ts_demux.specs.declared.table_walk.Reading.TheVariants.{GoesOn};
 ghost use Rattle.ts_demux.specs.TableWalk.{StandsBefore, IsBetween, Ends, KnowsOnMap, map_pid_of, missing_of};
-ghost use Rattle.ts_demux.specs.Private.TableWalk.{IsInPat, IsInMap, IsOnMapPid, KnowsWhereRead, Reads, ReadsPat, ReadsMap, is_on_pat_pid, is_map_on};
+ghost use Rattle.ts_demux.specs.Private.TableWalk.{IsInPat, IsInMap, IsInTable, IsOnMapPid, KnowsWhereRead, Reads, ReadsPat, ReadsMap, is_on_pat_pid, is_map_on, reader_on};
 
 use crate::demux_fault::{DemuxFault, pid_refused, section_refused};
 use crate::file_packets::place_of;
@@ -50,6 +50,15 @@ impl Known {
             Known::MapOn { pid, from: _ } => pid == PAT_PID,
         }
     }
+}
+
+/// The PIDs whose sections are read.
+#[derive(Clone, Copy)]
+enum TablePid {
+    /// PID 0, that of the PAT.
+    OfPat,
+    /// The PMT's PID, where that is another.
+    OfMap,
 }
 
 /// What comes of one section.
@@ -129,25 +138,8 @@ impl TableWalk {
         ensures known { (file : List ℕ) → n < piece_count file → bytes.now ≡ piece_at file n → IsBetween file n self.old → KnowsOnMap file self.old.program result self.new.known }
     {
         match self.pat.take(bytes) {
-            Ok(()) => self.read_pat_sections(n),
+            Ok(()) => self.read_sections(TablePid::OfPat, n),
             Err(fault) => Err(pid_refused(place_of(n), fault)),
-        }
-    }
-
-    /// Reads the sections of PID 0 that wait behind the n-th packet.
-    fn read_pat_sections(&mut self, n: usize) -> Result<Option<ProgramMap>, DemuxFault>
-        requires place { PACKET_BYTES * n < 2 ^ 64 }
-        ensures ends { (file : List ℕ) → IsInPat file n self.old →
-            Ends file self.old.program result (IsBetween file (n + 1) self.new × (self.new.program ≡ self.old.program)) }
-        ensures known { (file : List ℕ) → IsInPat file n self.old → KnowsOnMap file self.old.program result self.new.known }
-    {
-        loop {
-            match self.read_pat_section(n) {
-                Ok(Reading::AllRead) => return Ok(None),
-                Ok(Reading::GoesOn) => {}
-                Ok(Reading::Map(map)) => return Ok(Some(map)),
-                Err(fault) => return Err(fault),
-            }
         }
     }
 
@@ -166,25 +158,39 @@ impl TableWalk {
         ensures known { (file : List ℕ) → n < piece_count file → bytes.now ≡ piece_at file n → IsBetween file n self.old → KnowsOnMap file self.old.program result self.new.known }
     {
         match self.map.take(bytes) {
-            Ok(()) => self.read_map_sections(n),
+            Ok(()) => self.read_sections(TablePid::OfMap, n),
             Err(fault) => Err(pid_refused(place_of(n), fault)),
         }
     }
 
-    /// Reads the sections of the PMT's PID that wait behind the n-th packet.
-    fn read_map_sections(&mut self, n: usize) -> Result<Option<ProgramMap>, DemuxFault>
+    /// Reads the sections on one of both PIDs that wait behind the n-th packet.
+    fn read_sections(&mut self, on: TablePid, n: usize) -> Result<Option<ProgramMap>, DemuxFault>
         requires place { PACKET_BYTES * n < 2 ^ 64 }
-        ensures ends { (file : List ℕ) → IsInMap file n self.old →
+        ensures ends { (file : List ℕ) → IsInTable on file n self.old →
             Ends file self.old.program result (IsBetween file (n + 1) self.new × (self.new.program ≡ self.old.program)) }
-        ensures known { (file : List ℕ) → IsInMap file n self.old → KnowsOnMap file self.old.program result self.new.known }
+        ensures known { (file : List ℕ) → IsInTable on file n self.old → KnowsOnMap file self.old.program result self.new.known }
     {
         loop {
-            match self.read_map_section(n) {
+            match self.read_section(on, n) {
                 Ok(Reading::AllRead) => return Ok(None),
                 Ok(Reading::GoesOn) => {}
                 Ok(Reading::Map(map)) => return Ok(Some(map)),
                 Err(fault) => return Err(fault),
             }
+        }
+    }
+
+    /// Reads the next section on one of both PIDs that waits behind the n-th packet.
+    fn read_section(&mut self, on: TablePid, n: usize) -> Result<Reading, DemuxFault>
+        requires place { PACKET_BYTES * n < 2 ^ 64 }
+        ensures read { (file : List ℕ) → IsInTable on file n self.old →
+            Reads file self.old.program result (IsInTable on file n self.new × (self.new.program ≡ self.old.program)) (IsBetween file (n + 1) self.new × (self.new.program ≡ self.old.program)) }
+        ensures known { (file : List ℕ) → IsInTable on file n self.old → KnowsWhereRead file self.old.program result self.new.known }
+        ensures fewer { result ≡ Ok GoesOn → length (sections_of (reader_on on self.new).builder) < length (sections_of (reader_on on self.old).builder) }
+    {
+        match on {
+            TablePid::OfPat => self.read_pat_section(n),
+            TablePid::OfMap => self.read_map_section(n),
         }
     }
 

@@ -12,8 +12,11 @@ use Rattle.ts_demux.specs.declared.table_walk.Known.{Known}
 use Rattle.ts_demux.specs.declared.table_walk.Known.TheVariants.{Nothing, OtherPrograms, MapOn}
 use Rattle.ts_demux.specs.declared.table_walk.Reading.{Reading}
 use Rattle.ts_demux.specs.declared.table_walk.Reading.TheVariants.{AllRead, GoesOn, Map}
+use Rattle.ts_demux.specs.declared.table_walk.TablePid.{TablePid}
+use Rattle.ts_demux.specs.declared.table_walk.TablePid.TheVariants.{OfPat, OfMap}
 use Rattle.ts_demux.specs.declared.table_walk.TableWalk.{TableWalk}
 use Rattle.ts_demux.specs.Tables.{pat_pid, Names, IsBadPat, IsBadPmt, IsMapOf, refuse, take, StopsFirst, sections_at}
+use Rattle.ts_demux.specs.declared.section_reader.SectionReader.{SectionReader}
 use Rattle.ts_demux.specs.SectionReader.{Waits}
 use Rattle.ts_demux.specs.TableWalk.{IsQuiet, IsNamed, IsKnown, IsMapReader, IsPidKnown, missing_of}
 
@@ -45,6 +48,16 @@ pub record IsInMap (file : List ℕ) (packet : ℕ) (walk : TableWalk) : Type 0 
   pub map : Waits (pid_pieces file pid from (packet + 1)) waiting walk.map
   pub waiting_is : drop done (sections_at file pid from packet) ≡ waiting
   pub pat : Waits (pid_pieces file pat_pid 0 (packet + 1)) [] walk.pat
+
+-- the sections of a packet of one of both PIDs are read, the first ones done
+abbrev pub IsInTable : TablePid → List ℕ → ℕ → TableWalk → Type 0
+IsInTable OfPat = IsInPat
+IsInTable OfMap = IsInMap
+
+-- the reader of the sections of one of both PIDs
+abbrev pub reader_on : TablePid → TableWalk → SectionReader
+reader_on OfPat walk = walk.pat
+reader_on OfMap walk = walk.map
 
 -- what comes of one section, where a walk stands behind it as `on` says, or behind all as `behind` does
 abbrev pub Reads : List ℕ → ℕ → Result Reading DemuxFault → Type 0 → Type 0 → Type 0

@@ -1,10 +1,7 @@
 use Rattle.std.proofs.Common.{codes}
 use Rattle.job_report.specs.Field.{optional_field, is_text, is_form}
-use Rattle.job_report.proofs.FieldLaws.{wrong_tells, right_tells, left_out_right}
+use Rattle.job_report.proofs.FieldLaws.{wrong_tells, right_tells}
 use Rattle.job_report.proofs.fields.optional_form.Goals as goal
-
-pub returns-in-None-clause-right : goal.returns-in-None-clause-right
-returns-in-None-clause-right c = left_out_right _ _ _ _ _ c.in-None.ensures
 
 pub returns-in-Ok-clause-right : goal.returns-in-Ok-clause-right
 returns-in-Ok-clause-right c = right_tells _ _ _ _ c.in-Some.ensures c.in-Ok.ensures.right

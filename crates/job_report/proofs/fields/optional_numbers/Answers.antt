@@ -1,9 +1,6 @@
 use Rattle.job_report.specs.Field.{optional_field, is_integer, is_array_of, are_numbers}
-use Rattle.job_report.proofs.FieldLaws.{wrong_tells, right_tells, left_out_right}
+use Rattle.job_report.proofs.FieldLaws.{wrong_tells, right_tells}
 use Rattle.job_report.proofs.fields.optional_numbers.Goals as goal
-
-pub returns-in-None-clause-right : goal.returns-in-None-clause-right
-returns-in-None-clause-right g c = left_out_right _ _ _ _ _ c.in-None.ensures
 
 pub returns-in-Ok-clause-right : goal.returns-in-Ok-clause-right
 returns-in-Ok-clause-right g c = right_tells _ _ _ _ c.in-Some.ensures c.in-Ok.ensures.right

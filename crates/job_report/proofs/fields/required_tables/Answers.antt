@@ -1,9 +1,6 @@
 use Rattle.job_report.specs.Field.{required, is_table, is_array_of, has_between}
-use Rattle.job_report.proofs.FieldLaws.{missing_tells, wrong_tells, right_tells}
+use Rattle.job_report.proofs.FieldLaws.{wrong_tells, right_tells}
 use Rattle.job_report.proofs.fields.required_tables.Goals as goal
-
-pub returns-in-None-clause-wrong : goal.returns-in-None-clause-wrong
-returns-in-None-clause-wrong c = missing_tells _ _ _ _ _ _ c.in-None.ensures c.field_fault.ensures
 
 pub returns-in-Ok-clause-right : goal.returns-in-Ok-clause-right
 returns-in-Ok-clause-right c = right_tells _ _ _ _ c.in-Some.ensures c.in-Ok.ensures.right

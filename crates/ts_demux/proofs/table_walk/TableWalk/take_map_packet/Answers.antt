@@ -9,7 +9,7 @@ take-requires c = map_pulled c.requires.stands.file c.args.n c.args.self.now.kno
 
 pub returns-in-Ok-clause-ends : goal.returns-in-Ok-clause-ends
 returns-in-Ok-clause-ends c file within bytes_are between =
-    c.read_map_sections.ensures.ends file
+    c.read_sections.ensures.ends file
     (map_begins file c.args.n c.args.self.now c.args.self.now.known c.args.bytes.now c.take.new.self refl within bytes_are
     c.requires.sync (c.requires.of_pid file bytes_are) between c.in-Ok.ensures)
 
@@ -21,6 +21,6 @@ returns-in-Err-clause-ends c file within bytes_are between =
 
 pub returns-in-Ok-clause-known : goal.returns-in-Ok-clause-known
 returns-in-Ok-clause-known c file within bytes_are between =
-    c.read_map_sections.ensures.known file
+    c.read_sections.ensures.known file
     (map_begins file c.args.n c.args.self.now c.args.self.now.known c.args.bytes.now c.take.new.self refl within bytes_are
     c.requires.sync (c.requires.of_pid file bytes_are) between c.in-Ok.ensures)

@@ -10,7 +10,7 @@ take-requires c = c.requires.stands.between.pat.waiting_is
 
 pub returns-in-Ok-clause-ends : goal.returns-in-Ok-clause-ends
 returns-in-Ok-clause-ends c file within bytes_are between =
-    c.read_pat_sections.ensures.ends file
+    c.read_sections.ensures.ends file
     (pat_begins file c.args.n c.args.self.now c.args.bytes.now c.take.new.self within bytes_are c.requires.sync (c.requires.of_pid file bytes_are) between
     (c.in-Ok.ensures (pid_pieces file pat_pid 0 c.args.n) (188 * c.args.n) between.pat))
 
@@ -22,6 +22,6 @@ returns-in-Err-clause-ends c file within bytes_are between =
 
 pub returns-in-Ok-clause-known : goal.returns-in-Ok-clause-known
 returns-in-Ok-clause-known c file within bytes_are between =
-    c.read_pat_sections.ensures.known file
+    c.read_sections.ensures.known file
     (pat_begins file c.args.n c.args.self.now c.args.bytes.now c.take.new.self within bytes_are c.requires.sync (c.requires.of_pid file bytes_are) between
     (c.in-Ok.ensures (pid_pieces file pat_pid 0 c.args.n) (188 * c.args.n) between.pat))

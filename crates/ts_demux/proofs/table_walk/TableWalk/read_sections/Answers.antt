@@ -2,7 +2,7 @@ use Rattle.std.proofs.Common.{ℕ, ◌∙◌, subst, refl}
 use Rattle.ts_demux.specs.Tables.{StopsFirst, take, refuse}
 use Rattle.ts_demux.specs.TableWalk.{IsPidKnown}
 use Rattle.ts_demux.proofs.ReadCases.{goes_on, all_read, map_read, knows_pid}
-use Rattle.ts_demux.proofs.table_walk.TableWalk.read_map_sections.Goals as goal
+use Rattle.ts_demux.proofs.table_walk.TableWalk.read_sections.Goals as goal
 
 pub loop-map-init : goal.loop-map-init
 loop-map-init c file is = (is, refl)
@@ -33,5 +33,5 @@ returns-in-Err-clause-ends c file is =
 pub returns-in-Ok-Map-clause-known : goal.returns-in-Ok-Map-clause-known
 returns-in-Ok-Map-clause-known c file is =
     let was = c.loop-map.invariant file is in
-    subst (λ (program : ℕ). IsPidKnown file program c.read_map_section.new.self.known) was.1
-    (knows_pid file c.loop-map.self.program c.in-Ok-Map.field-0 c.read_map_section.new.self.known (c.in-Ok-Map.ensures.known file was.0) c.in-Ok-Map.map c.in-Ok-Map.field-0-is)
+    subst (λ (program : ℕ). IsPidKnown file program c.read_section.new.self.known) was.1
+    (knows_pid file c.loop-map.self.program c.in-Ok-Map.field-0 c.read_section.new.self.known (c.in-Ok-Map.ensures.known file was.0) c.in-Ok-Map.map c.in-Ok-Map.field-0-is)
