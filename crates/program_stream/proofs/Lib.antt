@@ -12,3 +12,5 @@ pub mod BothForms
 pub mod SomeAnswer
 pub mod Early
 pub mod StreamSizes
+pub mod Rooms
+pub mod PassingSteps

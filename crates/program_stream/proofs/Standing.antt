@@ -2,13 +2,14 @@
 use Rattle.std.proofs.Common.{◌≡◌, ℕ, ◌+◌, ◌-◌, ◌≤◌, inl, inr, List, [], ◌∷◌, ◌++◌, length, replicate, take, drop, length-append, append_assoc, Result, refl, sym, ap, ◌∙◌, subst, arith}
 use Rattle.std.proofs.lemmas.List.{take_at, take_rest, drop_at, drop-drop, length-replicate, length-drop}
 use Rattle.std.specs.List.{AllByRecursion}
+use Rattle.ts_demux.specs.declared.demuxed.Demuxed.{Demuxed}
 use Rattle.program_stream.specs.declared.front.Front.{Front}
 use Rattle.program_stream.specs.declared.split_fault.SplitFault.{SplitFault}
 use Rattle.program_stream.specs.declared.stream_walk.StreamWalk.{StreamWalk}
 use Rattle.program_stream.specs.Elements.{Element, element_bytes, element_spelling, all_spelled, IsSoundElement, IsEnd, AreElements, IsRefusedAt, IsFirstRefusal}
-use Rattle.program_stream.specs.Split.{IsSplitRefused, no_video, audios}
+use Rattle.program_stream.specs.Split.{HasElements, IsSplit, IsSplitRefused, no_video, audios}
 use Rattle.program_stream.specs.Private.Fronts.{BeginsWith, Reads}
-use Rattle.program_stream.specs.Private.Walks.{HasWalked, IsStreamsFault}
+use Rattle.program_stream.specs.Private.Walks.{HasWalked, IsOfElements, IsStreamsFault}
 use Rattle.program_stream.specs.Private.Steps.{AreBefore, StandsAt, StandsBehind}
 use Rattle.program_stream.proofs.Packets.{all_spelled-more}
 
@@ -35,7 +36,7 @@ ends_here file ids at cut walk stands end = record { elements = stands.elements;
 
 -- ---- the element that stands first
 
-spelled_length : (element : Element) → length (element_spelling element) ≡ element.zeros + length (element_bytes element)
+pub spelled_length : (element : Element) → length (element_spelling element) ≡ element.zeros + length (element_bytes element)
 spelled_length element = length-append (replicate element.zeros 0) (element_bytes element) ∙ ap (λ (n : ℕ). n + length (element_bytes element)) (length-replicate element.zeros 0)
 
 -- its bytes in the file
@@ -54,7 +55,7 @@ found_within file at count len begins within =
     ap length begins.rest_is ∙ length-append (element_spelling begins.element) begins.more ∙ ap (λ (n : ℕ). n + length begins.more) (spelled_length begins.element) in
     (omega (arith, size, length-drop at file, begins.zeros_are, begins.len_is), omega (arith, begins.len_is))
 
-sound_more : (elements : List Element) (element : Element) → AllByRecursion IsSoundElement elements → IsSoundElement element → AllByRecursion IsSoundElement (elements ++ element ∷ [])
+pub sound_more : (elements : List Element) (element : Element) → AllByRecursion IsSoundElement elements → IsSoundElement element → AllByRecursion IsSoundElement (elements ++ element ∷ [])
 sound_more [] element sound here = (here, tt)
 sound_more (x ∷ elements) element sound here = (sound.0, sound_more elements element sound.1 here)
 
@@ -83,13 +84,35 @@ stands_next file ids at zeros len walk after stands begins walked = record {
   walked = walked;
 }
 
--- what is read at a place, as one of its cases
-pub reads_as : (file : List ℕ) (at n : ℕ) (result other : Result Front SplitFault) → n ≡ length file - at → Reads at (take n (drop at file)) result → result ≡ other → Reads at (drop at file) other
-reads_as file at n result other size reads same =
-    subst (Reads at (drop at file)) same (subst (λ (xs : List ℕ). Reads at xs result) (ap (λ (k : ℕ). take k (drop at file)) size ∙ take_rest file at) reads)
+-- what is read behind zero bytes at a place, as one of its cases
+pub reads_as : (file : List ℕ) (at n m count : ℕ) (result other : Result Front SplitFault) → n ≡ length file - at → m ≡ length (take n (drop at file)) - count
+    → take n (drop at file) ≡ replicate count 0 ++ drop count (take n (drop at file))
+    → Reads at count (replicate count 0 ++ take m (drop count (take n (drop at file)))) result → result ≡ other → Reads at count (drop at file) other
+reads_as file at n m count result other size more front reads same =
+    let rest = take n (drop at file) in
+    let all : rest ≡ drop at file = ap (λ (k : ℕ). take k (drop at file)) size ∙ take_rest file at in
+    let behind : take m (drop count rest) ≡ drop count rest = ap (λ (k : ℕ). take k (drop count rest)) more ∙ take_rest rest count in
+    subst (Reads at count (drop at file)) same
+    (subst (λ (xs : List ℕ). Reads at count xs result) (ap (λ (xs : List ℕ). replicate count 0 ++ xs) behind ∙ sym front ∙ all) reads)
 
--- its streams are refused
-pub streams_refused : (file ids : List ℕ) (elements : List Element) (cut : ℕ) (fault : SplitFault) → 14 ≤ length file → AreElements file elements cut → IsStreamsFault ids elements fault →
-    IsSplitRefused file ids fault
-streams_refused file ids elements cut fault long are (inl none) = no_video elements cut (record { long = long; are = are }) none.0 none.1
-streams_refused file ids elements cut fault long are (inr many) = audios elements cut many.0 (record { long = long; are = are }) many.1 many.2 many.3
+-- ---- its streams
+
+-- they are taken out
+pub streams_split : (file ids : List ℕ) (elements : List Element) (cut : ℕ) (demuxed : Demuxed) → HasElements file elements cut → IsOfElements ids elements demuxed → IsSplit file ids demuxed cut
+streams_split file ids elements cut demuxed are is = record {
+  elements = elements;
+  elements_are = are;
+  video = is.video;
+  video_is = is.video_is;
+  few = is.few;
+  map_is = is.map_is;
+  video_packets = is.video_packets;
+  audio_packets = is.audio_packets;
+  others_are = is.others_are;
+  no_rest = is.no_rest;
+}
+
+-- they are refused
+pub streams_refused : (file ids : List ℕ) (elements : List Element) (cut : ℕ) (fault : SplitFault) → HasElements file elements cut → IsStreamsFault ids elements fault → IsSplitRefused file ids fault
+streams_refused file ids elements cut fault are (inl none) = no_video elements cut are none.0 none.1
+streams_refused file ids elements cut fault are (inr many) = audios elements cut many.0 are many.1 many.2 many.3

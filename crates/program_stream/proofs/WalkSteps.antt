@@ -277,9 +277,6 @@ others_there drop elements others video is found = is ∙ ap (λ (v : Option ℕ
 pub few_audios : (streams : List AudioStream) (ids : List ℕ) (most : ℕ) → stream_ids streams ≡ ids → length streams ≤ most → length ids ≤ most
 few_audios streams ids most is few = omega (arith, ap length is, length-map streams (λ (s : AudioStream). s.pid))
 
-pub some_there : (n : ℕ) → (n == 0) ≡ false → 0 < n
-some_there n is = grind (arith, nat_tests)
-
 -- what two facts of an Ok give
 pub on_both : {T E A B C : Type 0} (result : Result T E) → OnOk result A → OnOk result B → (A → B → C) → OnOk result C
 on_both (Ok x) a b step = step a b

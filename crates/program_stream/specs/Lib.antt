@@ -2,4 +2,5 @@ pub mod Elements
 pub mod Streams
 pub mod Split
 pub mod Forms
+pub mod PassingElements
 pub mod Private

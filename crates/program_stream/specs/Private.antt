@@ -1,3 +1,4 @@
 pub mod Fronts
+pub mod Waiting
 pub mod Walks
 pub mod Steps

@@ -3,9 +3,8 @@ ghost use Rattle.std.specs.Prelude.{◌≤◌, List, length, MatchResult, IfOk};
 ghost use Rattle.program_stream.specs.Elements.{Element, AreElements, IsFirstRefusal};
 ghost use Rattle.program_stream.specs.Private.Steps.{AreBefore, IsWithin, Finds, GoesOn};
 
-use crate::front::{Front, read_front};
+use crate::front::{Front, read_front, zeros_before};
 use crate::split_fault::SplitFault;
-use crate::split_file::Step;
 
 /// Finds the elements of a file one behind the other, and answers how many last ones are cut. An error is the first refusal among them.
 pub fn find_elements(file: &[u8]) -> Result<u32, SplitFault>
@@ -21,6 +20,15 @@ pub fn find_elements(file: &[u8]) -> Result<u32, SplitFault>
     }
 }
 
+/// What comes of the elements of a file from a place on.
+#[derive(Clone, Copy)]
+pub enum Step {
+    /// None follows; so many last ones are cut.
+    End { cut: u32 },
+    /// The next one stands at this place.
+    Next { at: usize },
+}
+
 /// Where the element ends that stands at a place of a file, behind others.
 fn find_element(file: &[u8], at: usize) -> Result<Step, SplitFault>
     requires within { at ≤ length file.now }
@@ -29,14 +37,16 @@ fn find_element(file: &[u8], at: usize) -> Result<Step, SplitFault>
     ensures within { IfOk result (λ step. IsWithin (length file.now) step) }
     ensures on { IfOk result (λ step. GoesOn at step) }
 {
-    let front = match read_front(&file[at..], at as u64) {
+    let rest = &file[at..];
+    let zeros = zeros_before(rest);
+    let front = match read_front(&rest[zeros..], zeros, at as u64) {
         Ok(front) => front,
         Err(fault) => return Err(fault),
     };
     match front {
         Front::Zeros => Ok(Step::End { cut: 0 }),
         Front::Cut => Ok(Step::End { cut: 1 }),
-        Front::Whole { zeros, len } => Ok(Step::Next {
+        Front::Whole { len } => Ok(Step::Next {
             at: at + zeros + len,
         }),
     }

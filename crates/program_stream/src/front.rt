@@ -1,9 +1,9 @@
 //! What stands at the front of the bytes that are left of a program stream (ISO/IEC 13818-1, 2.5.3).
 
-ghost use Rattle.std.specs.Prelude.{◌≡◌, ◌≢◌, ℕ, ◌+◌, ◌<◌, ◌≤◌, ◌^◌, List, ◌∷◌, ◌++◌, length, replicate, drop, slice_get, slice_index, Some};
+ghost use Rattle.std.specs.Prelude.{◌≡◌, ◌≢◌, ℕ, ◌+◌, ◌<◌, ◌≤◌, ◌^◌, true, List, ◌∷◌, ◌++◌, length, replicate, drop, slice_get, slice_index, Some, IfOk};
 ghost use Rattle.pes_units.specs.PesHeader.{pes_packet_length};
 ghost use Rattle.program_stream.specs.Elements.{Element, element_bytes, has_pack_marks, element_length, element_refusal, is_video_or_audio};
-ghost use Rattle.program_stream.specs.Private.Fronts.{Reads};
+ghost use Rattle.program_stream.specs.Private.Fronts.{IsBehind, Reads, needs_more};
 
 use crate::split_fault::SplitFault;
 use crate::stream_ids::{
@@ -16,6 +16,9 @@ const START_CODE_BYTES: usize = 4;
 /// Bytes of a packet before those that its length counts: a start code and two bytes of the length.
 const LENGTH_END: usize = 6;
 
+/// The most bytes of an element: those of a packet that states the longest length.
+const ELEMENT_BYTES_MOST: usize = LENGTH_END + 0xFFFF;
+
 /// What is found at the front.
 #[derive(Clone, Copy)]
 pub enum Front {
@@ -23,14 +26,26 @@ pub enum Front {
     Zeros,
     /// An element that the end of the bytes cuts.
     Cut,
-    /// A whole element that nothing refuses: the zero bytes before it, and how many bytes it has itself.
-    Whole { zeros: usize, len: usize },
+    /// A whole element that nothing refuses, of so many bytes.
+    Whole { len: usize },
 }
 
-/// What stands first in the bytes that are left from a place of a file on. An error is why they are refused, with the place.
-pub fn read_front(rest: &[u8], at: u64) -> Result<Front, SplitFault>
-    requires { at + length rest.now < 2 ^ 64 }
-    ensures { Reads at rest.now result }
+/// How many of the zero bytes that stand first may be passed over: all but the last two, with which a start code prefix begins.
+pub fn zeros_before(bytes: &[u8]) -> usize
+    ensures within { result ≤ length bytes.now }
+    ensures zeros { bytes.now ≡ replicate result 0 ++ drop result bytes.now }
+    ensures behind { IsBehind result (drop result bytes.now) }
+{
+    count_zeros(bytes).saturating_sub(2)
+}
+
+/// What stands first in the bytes that are left from a place of a file on, of which so many zero bytes were passed over. An error is why they
+/// are refused, with the place.
+pub fn read_front(rest: &[u8], zeros: usize, at: u64) -> Result<Front, SplitFault>
+    requires place { at + zeros + length rest.now < 2 ^ 64 }
+    requires behind { IsBehind zeros rest.now }
+    ensures reads { Reads at zeros (replicate zeros 0 ++ rest.now) result }
+    ensures few { IfOk result (λ front. needs_more front ≡ true → length rest.now < ELEMENT_BYTES_MOST) }
 {
     let ones = count_zeros(rest);
     if ones == rest.len() {
@@ -39,15 +54,15 @@ pub fn read_front(rest: &[u8], at: u64) -> Result<Front, SplitFault>
     if ones < 2 || rest[ones] != 1 {
         return Err(SplitFault::BadStart { at });
     }
-    let zeros = ones - 2;
-    read_element(&rest[zeros..], zeros, at + zeros as u64)
+    read_element(rest, zeros, at + zeros as u64)
 }
 
 /// What stands in bytes that begin with a start code prefix at a place of a file, behind so many zero bytes.
 fn read_element(bytes: &[u8], zeros: usize, at: u64) -> Result<Front, SplitFault>
     requires prefix { (more : List ℕ) × (bytes.now ≡ 0 ∷ 0 ∷ 1 ∷ more) }
     requires place { at + length bytes.now < 2 ^ 64 }
-    ensures { (before : ℕ) → at ≡ before + zeros → Reads before (replicate zeros 0 ++ bytes.now) result }
+    ensures reads { (before : ℕ) → at ≡ before + zeros → Reads before zeros (replicate zeros 0 ++ bytes.now) result }
+    ensures few { IfOk result (λ front. needs_more front ≡ true → length bytes.now < ELEMENT_BYTES_MOST) }
 {
     if bytes.len() < START_CODE_BYTES {
         return Ok(Front::Cut);
@@ -61,7 +76,17 @@ fn read_element(bytes: &[u8], zeros: usize, at: u64) -> Result<Front, SplitFault
     }
     match refusal(&bytes[..len], at) {
         Some(fault) => Err(fault),
-        None => Ok(Front::Whole { zeros, len }),
+        None => Ok(Front::Whole { len }),
+    }
+}
+
+/// Whether no whole element was found, so that more bytes may change what is.
+pub fn needs_more(front: Front) -> bool
+    ensures { result ≡ needs_more front }
+{
+    match front {
+        Front::Zeros | Front::Cut => true,
+        Front::Whole { len: _ } => false,
     }
 }
 
@@ -82,7 +107,8 @@ fn count_zeros(bytes: &[u8]) -> usize
 #[tactic(auto, using(crate::proofs::Fields::fields))]
 fn element_length(bytes: &[u8]) -> usize
     requires { 4 ≤ length bytes.now }
-    ensures { (element : Element) → bytes.now ≡ element_bytes element → result ≡ element_length element }
+    ensures length { (element : Element) → bytes.now ≡ element_bytes element → result ≡ element_length element }
+    ensures most { result ≤ ELEMENT_BYTES_MOST }
 {
     if bytes[3] == END_CODE {
         return START_CODE_BYTES;

@@ -5,7 +5,8 @@ ghost use Rattle.program_stream.specs.Private.Walks.{HasWalked};
 ghost use Rattle.program_stream.specs.Private.Steps.{StandsAt, StandsBehind, IsWithin, Steps};
 ghost use Rattle.program_stream.specs.Split.{IsSplit, IsSplitRefused};
 
-use crate::front::{Front, read_front};
+use crate::found_elements::Step;
+use crate::front::{Front, read_front, zeros_before};
 use crate::split_fault::SplitFault;
 use crate::stream_ids::PACK_HEADER_BYTES;
 use crate::stream_walk::StreamWalk;
@@ -55,15 +56,6 @@ fn walk_elements(
     }
 }
 
-/// What comes of the elements of a file from a place on.
-#[derive(Clone, Copy)]
-pub enum Step {
-    /// None follows; so many last ones are cut.
-    End { cut: u32 },
-    /// One is taken, and the next one stands at this place.
-    Next { at: usize },
-}
-
 /// Takes the element that stands at a place of the file, behind those that were taken.
 fn take_element(
     alloc: Global,
@@ -77,14 +69,16 @@ fn take_element(
     ensures steps { Steps file.now drop.now at result walk.new }
     ensures within { IfOk result (λ step. IsWithin (length file.now) step) }
 {
-    let front = match read_front(&file[at..], at as u64) {
+    let rest = &file[at..];
+    let zeros = zeros_before(rest);
+    let front = match read_front(&rest[zeros..], zeros, at as u64) {
         Ok(front) => front,
         Err(fault) => return Err(fault),
     };
     match front {
         Front::Zeros => Ok(Step::End { cut: 0 }),
         Front::Cut => Ok(Step::End { cut: 1 }),
-        Front::Whole { zeros, len } => {
+        Front::Whole { len } => {
             let from = at + zeros;
             walk.take(alloc, drop, from as u64, &file[from..from + len])?;
             Ok(Step::Next { at: from + len })

@@ -3,8 +3,8 @@ use Rattle.std.specs.Prelude.{◌≡◌, ℕ, ◌<◌, ◌≤◌, ◌⊎◌, Lis
 use Rattle.std.specs.List.{AllByRecursion}
 use Rattle.program_stream.specs.declared.split_fault.SplitFault.{SplitFault}
 use Rattle.program_stream.specs.declared.split_fault.SplitFault.TheVariants.{OutOfMemory}
-use Rattle.program_stream.specs.declared.split_file.Step.{Step}
-use Rattle.program_stream.specs.declared.split_file.Step.TheVariants.{End, Next}
+use Rattle.program_stream.specs.declared.found_elements.Step.{Step}
+use Rattle.program_stream.specs.declared.found_elements.Step.TheVariants.{End, Next}
 use Rattle.program_stream.specs.declared.stream_walk.StreamWalk.{StreamWalk}
 use Rattle.program_stream.specs.Elements.{Element, all_spelled, IsSoundElement, AreElements, IsFirstRefusal}
 use Rattle.program_stream.specs.Private.Walks.{HasWalked}

@@ -7,20 +7,20 @@ use Rattle.program_stream.proofs.split_file.take_element.Goals as goal
 pub returns-in-Zeros-clause-steps : goal.returns-in-Zeros-clause-steps
 returns-in-Zeros-clause-steps c =
     ends_here c.args.file.now c.args.drop.now c.args.at 0 c.args.walk.now c.requires.stands
-    (reads_as c.args.file.now c.args.at _ c.read_front.result (Ok Zeros) refl c.read_front.ensures (c.in-Ok.is ∙ ap Ok c.in-Zeros.is))
+    (reads_as c.args.file.now c.args.at _ _ c.zeros_before-zeros.result c.read_front.result (Ok Zeros) refl refl c.zeros_before-zeros.ensures.zeros c.read_front.ensures.reads (c.in-Ok.is ∙ ap Ok c.in-Zeros.is))
 
 pub returns-in-Cut-clause-steps : goal.returns-in-Cut-clause-steps
 returns-in-Cut-clause-steps c =
     ends_here c.args.file.now c.args.drop.now c.args.at 1 c.args.walk.now c.requires.stands
-    (reads_as c.args.file.now c.args.at _ c.read_front.result (Ok Cut) refl c.read_front.ensures (c.in-Ok.is ∙ ap Ok c.in-Cut.is))
+    (reads_as c.args.file.now c.args.at _ _ c.zeros_before-zeros.result c.read_front.result (Ok Cut) refl refl c.zeros_before-zeros.ensures.zeros c.read_front.ensures.reads (c.in-Ok.is ∙ ap Ok c.in-Cut.is))
 
 pub returns-in_ok-take-in-Whole-clause-steps : goal.returns-in_ok-take-in-Whole-clause-steps
 returns-in_ok-take-in-Whole-clause-steps c =
     let file = c.args.file.now in
-    let zeros = c.in-Whole.zeros in
+    let zeros = c.zeros_before-zeros.result in
     let len = c.in-Whole.len in
     let stands = c.requires.stands in
-    let begins = reads_as file c.args.at _ c.read_front.result (Ok (Whole zeros len)) refl c.read_front.ensures (c.in-Ok.is ∙ ap Ok c.in-Whole.is) in
+    let begins = reads_as file c.args.at _ _ zeros c.read_front.result (Ok (Whole len)) refl refl c.zeros_before-zeros.ensures.zeros c.read_front.ensures.reads (c.in-Ok.is ∙ ap Ok c.in-Whole.is) in
     let within = found_within file c.args.at zeros len begins c.requires.within in
     let bytes = found_bytes file c.args.at zeros len begins in (
       stands_next file c.args.drop.now c.args.at zeros len c.args.walk.now c.take.new.self stands begins

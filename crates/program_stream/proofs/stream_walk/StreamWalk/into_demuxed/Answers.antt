@@ -3,7 +3,8 @@ use Rattle.ts_demux.specs.declared.demuxed.AudioStream.{AudioStream}
 use Rattle.program_stream.specs.Streams.{first_video_id, stream_with_id, map_of}
 use Rattle.program_stream.specs.Private.Walks.{stream_ids}
 use Rattle.program_stream.proofs.Holding.{streams_are}
-use Rattle.program_stream.proofs.WalkSteps.{one_video, others_there, few_audios, some_there}
+use Rattle.ts_demux.proofs.CarrySteps.{some_there}
+use Rattle.program_stream.proofs.WalkSteps.{one_video, others_there, few_audios}
 use Rattle.program_stream.proofs.stream_walk.StreamWalk.into_demuxed.Goals as goal
 
 pub returns : goal.returns
