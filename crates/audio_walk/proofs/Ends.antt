@@ -25,8 +25,9 @@ use Rattle.elementary_streams.proofs.FrameTimes.{frames_near}
 use Rattle.elementary_streams.proofs.StreamLemmas.{HasPayload, are_starts, placed_count, placed_times, taken_payloads}
 use Rattle.elementary_streams.proofs.TimeRange.{IsInRange}
 use Rattle.elementary_streams.proofs.TakenLemmas.{IsWhole, count_dropped, count_taken, dropped_of, read_none, read_some, refused_last, sound_of, taken_of}
+use Rattle.pes_passing.specs.PassingPackets.{AreSplit}
 use Rattle.audio_walk.specs.declared.walk.AudioWalk.{AudioWalk}
-use Rattle.audio_walk.specs.AudioWalk.{AreAll, IsFaultBefore, IsPlaced, packet_count}
+use Rattle.audio_walk.specs.AudioWalk.{IsFaultBefore, IsPlaced, packet_count}
 use Rattle.audio_walk.specs.Private.Ends.{EndsWith}
 
 -- a packet that another one follows has this fault
@@ -55,16 +56,16 @@ fault_last first stream packets last fault all_are whole found = by_fault (refus
 
 -- ---- all of a stream
 
-pub ends_none : (packets all : List PesUnit) (given : Option PesUnit) → given ≡ None → AreAll packets given all → EndsWith packets 0 all
-ends_none packets all None none are = record {
-  sound = subst (AreSound false) (sym are.1) tt;
-  taken_are = ap (taken false) are.1 ∙ sym are.0;
-  dropped_are = sym (ap (packets_dropped false) are.1);
-}
-ends_none packets all (Some last) none are = absurd cc
+pub ends_none : (packets all : List PesUnit) (given : Option PesUnit) → given ≡ None → AreSplit all packets given → EndsWith packets 0 all
+ends_none packets all given none are =
+    let empty : all ≡ [] = are.packets ∙ ap (λ (last : Option PesUnit). packets ++ option_to_list last) none ∙ append-nil packets ∙ are.none none in record {
+      sound = subst (AreSound false) (sym empty) tt;
+      taken_are = ap (taken false) empty ∙ sym (are.none none);
+      dropped_are = sym (ap (packets_dropped false) empty);
+    }
 
-pub known_last : (packets all : List PesUnit) (given : Option PesUnit) (last : PesUnit) → given ≡ Some last → AreAll packets given all → all ≡ packets ++ last ∷ []
-known_last packets all given last is are = subst (λ (some : Option PesUnit). AreAll packets some all) is are
+pub known_last : (packets all : List PesUnit) (given : Option PesUnit) (last : PesUnit) → given ≡ Some last → AreSplit all packets given → all ≡ packets ++ last ∷ []
+known_last packets all given last is are = are.packets ∙ ap (λ (found : Option PesUnit). packets ++ option_to_list found) is
 
 -- the header of a last packet tells whether it is dropped
 pub ends_some : (packets all : List PesUnit) (last : PesUnit) (found : Option PesHeader) (header : PesHeader) → All (IsWhole false) packets → all ≡ packets ++ last ∷ []

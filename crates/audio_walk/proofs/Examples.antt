@@ -7,7 +7,8 @@ use Rattle.pes_units.specs.PesPackets.{packet_refusal}
 use Rattle.ts_demux.specs.declared.demuxed.PesUnit.{PesUnit}
 use Rattle.elementary_streams.specs.declared.stream_fault.StreamFault.TheVariants.{Pes}
 use Rattle.elementary_streams.proofs.TakenLemmas.{IsWhole}
-use Rattle.audio_walk.specs.AudioWalk.{AreAll, IsFaultBefore, IsRateOf}
+use Rattle.pes_passing.specs.PassingPackets.{AreSplit}
+use Rattle.audio_walk.specs.AudioWalk.{IsFaultBefore, IsRateOf}
 
 -- a byte behind a header of nine, and the same with another third byte
 abbrev one : PesUnit
@@ -42,8 +43,8 @@ no_bytes : IsRateOf [] [] None
 no_bytes = (0, omega arith, refl, λ k lt. absurd (omega (arith, lt)))
 
 -- a stream of one packet, and of none
-all_of_one : AreAll [] (Some one) (one ∷ [])
-all_of_one = refl
+all_of_one : AreSplit (one ∷ []) [] (Some one)
+all_of_one = record { packets = refl; none = λ _. refl }
 
-all_of_none : AreAll [] None []
-all_of_none = (refl, refl)
+all_of_none : AreSplit [] [] None
+all_of_none = record { packets = refl; none = λ _. refl }

@@ -1,6 +1,6 @@
 -- What a walk over the PES packets of an audio stream has read of it. `HasRead` links its calls: a new one has it of no packet, each `take` hands it on, and `end`
 -- says what it is worth.
-use Rattle.std.specs.Prelude.{◌≡◌, ℕ, ◌<◌, ◌≤◌, Bool, false, List, [], ◌∷◌, ◌++◌, length, drop, All, Option, Some, None}
+use Rattle.std.specs.Prelude.{◌≡◌, ℕ, ◌<◌, ◌≤◌, Bool, false, List, ◌∷◌, ◌++◌, length, drop, All, Option, Some, None}
 use Rattle.audio_frames.specs.Frames.{has_low_rate}
 use Rattle.audio_frames.specs.Walk.{IsWalked, NeverFirst}
 use Rattle.pes_units.specs.PesPackets.{packet_refusal}
@@ -48,8 +48,3 @@ pub record HasRead (packets : List PesUnit) (walk : AudioWalk) : Type 0 where
 -- whatever packets follow this one, it is the first of the stream that has a fault, and has this one
 abbrev pub IsFaultBefore : List PesUnit → PesUnit → StreamFault → Type 0
 IsFaultBefore packets packet fault = (next : PesUnit) (more : List PesUnit) → IsPacketFault false (packets ++ packet ∷ next ∷ more) fault
-
--- these PES packets and the last one are all of a stream; there is no last one where there are none
-abbrev pub AreAll : List PesUnit → Option PesUnit → List PesUnit → Type 0
-AreAll packets None all = (packets ≡ []) × (all ≡ [])
-AreAll packets (Some last) all = all ≡ packets ++ last ∷ []

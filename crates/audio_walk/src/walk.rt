@@ -13,6 +13,7 @@ ghost use Rattle.elementary_streams.specs.declared.stream_fault.StreamFault.TheV
 ghost use Rattle.elementary_streams.specs.Audio.{IsStreamRead, IsStreamRefused, of_frames};
 ghost use Rattle.elementary_streams.specs.NearTimes.{IsNear};
 ghost use Rattle.elementary_streams.specs.Private.TakenPackets.{IsFaultOf};
+ghost use Rattle.pes_passing.specs.PassingPackets.{AreSplit};
 
 use crate::first_rate::FirstRate;
 use audio_frames::{AudioFault, FrameWalk};
@@ -45,7 +46,7 @@ pub struct AudioWalk {
 }
 
 impl AudioWalk {
-    ghost use Rattle.audio_walk.specs.AudioWalk.{AreAll, HasRead, IsFaultBefore, IsPlaced, packet_count, payload_bytes};
+    ghost use Rattle.audio_walk.specs.AudioWalk.{HasRead, IsFaultBefore, IsPlaced, packet_count, payload_bytes};
     ghost use Rattle.audio_walk.specs.Private.Ends.{EndsWith};
 
     /// A walk before the first PES packet of an audio stream.
@@ -94,11 +95,11 @@ impl AudioWalk {
     /// What is read of the stream of a program whose video begins at a time, behind the last PES packet, which the file's end may cut; a stream may have none
     /// at all. An error is the stream's first refusal, or want of memory.
     pub fn end(self, last: Option<&PesUnit>, first: &AxisTime) -> Result<ReadStream, StreamFault>
-        requires read { (packets : List PesUnit) × (all : List PesUnit) × HasRead packets self × AreAll packets (option_copied last) all }
+        requires read { (packets : List PesUnit) × (all : List PesUnit) × HasRead packets self × AreSplit all packets (option_copied last) }
         requires few { packet_count self + length (option_to_list (option_copied last)) ≤ PES_PACKETS_MOST }
         requires size { payload_bytes self + sum_by (λ packet. length packet.bytes) (option_to_list (option_copied last)) ≤ PAYLOAD_BYTES_MOST }
         requires first { IsNear 0 first.now.time }
-        ensures { (packets : List PesUnit) (stream : AudioStream) → HasRead packets self → AreAll packets (option_copied last.entry) stream.units →
+        ensures { (packets : List PesUnit) (stream : AudioStream) → HasRead packets self → AreSplit stream.units packets (option_copied last.entry) →
             MatchResult result (IsStreamRead first.now.time stream) (λ fault. (fault ≡ faults.OutOfMemory) ⊎ IsStreamRefused first.now.time stream fault) }
     {
         let Some(last) = last else {

@@ -33,7 +33,7 @@ there (packet ∷ packets) = ap (λ (more : List PesUnit). packet ∷ more) (the
 
 -- ---- one payload
 
-split_start : (xs : List CarriedPayload) (x : CarriedPayload) (ended : List PesUnit) (last : Option PesUnit) → is_start x.payload ≡ true → AreSplit (units_of xs) ended last
+pub split_start : (xs : List CarriedPayload) (x : CarriedPayload) (ended : List PesUnit) (last : Option PesUnit) → is_start x.payload ≡ true → AreSplit (units_of xs) ended last
     → AreSplit (units_of (xs ++ x ∷ [])) (ended ++ option_to_list last) (Some (begun_packet x.at x.payload.bytes))
 split_start xs x ended last start split = record {
   packets = ap (map unit_of) (gathered_start xs x start) ∙ map-append unit_of (gathered xs) (begun_in x ∷ [])
@@ -41,7 +41,7 @@ split_start xs x ended last start split = record {
   none = λ no. absurd (let bad : Some (begun_packet x.at x.payload.bytes) ≡ None = no in cc);
 }
 
-split_on : (xs : List CarriedPayload) (x : CarriedPayload) (ended : List PesUnit) (last : Option PesUnit) → is_start x.payload ≡ false → AreSplit (units_of xs) ended last
+pub split_on : (xs : List CarriedPayload) (x : CarriedPayload) (ended : List PesUnit) (last : Option PesUnit) → is_start x.payload ≡ false → AreSplit (units_of xs) ended last
     → AreSplit (units_of (xs ++ x ∷ [])) ended (option_map (with_payload x.payload.bytes) last)
 split_on xs x ended None start split =
     let none : ended ≡ [] = split.none refl in

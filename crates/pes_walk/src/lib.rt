@@ -7,7 +7,7 @@
 
 mod walk;
 
-pub use walk::{FRONT_BYTES, PesWalk};
+pub use walk::{FRONT_BYTES, PesWalk, header_bytes};
 
 #[cfg(test)]
 mod tests;

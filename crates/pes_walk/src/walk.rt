@@ -172,7 +172,7 @@ fn begins(start: bool, payload: &[u8]) -> bool
 
 /// The length of the header that bytes begin with, by its ninth byte where it has come.
 #[tactic(auto, using(crate::proofs::Headers::header))]
-fn header_bytes(bytes: &[u8]) -> usize
+pub fn header_bytes(bytes: &[u8]) -> usize
     ensures { result ≡ header_length bytes.now }
 {
     let behind = match bytes.get(HEADER_DATA_LENGTH_AT) {

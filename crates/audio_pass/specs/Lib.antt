@@ -1,0 +1,2 @@
+pub mod PassedAudio
+pub mod Private

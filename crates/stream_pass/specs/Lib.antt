@@ -1,0 +1,3 @@
+pub mod PassedStream
+pub mod StreamWalk
+pub mod Private
