@@ -1,1 +1,3 @@
 pub mod TakenVideo
+pub mod AsDemuxed
+pub mod NearTimes

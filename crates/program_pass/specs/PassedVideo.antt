@@ -1,6 +1,5 @@
 -- The video of a file that was read while the file passed out of a source, and what refuses it.
-use Rattle.std.specs.Prelude.{◌≡◌, ◌⊎◌, ℕ, ◌<◌, ◌≤◌, List, length, map, slice_get, Option, Some, None, true}
-use Rattle.ts_packets.specs.TransportStream.{piece_count}
+use Rattle.std.specs.Prelude.{◌≡◌, ◌⊎◌, ℕ, ◌<◌, ◌≤◌, List, length, map, Option, None, true}
 use Rattle.ts_demux.specs.declared.demuxed.Demuxed.{Demuxed}
 use Rattle.ts_demux.specs.declared.demuxed.PesUnit.{PesUnit}
 use Rattle.ts_demux.specs.declared.pass_fault.PassFault.TheVariants as passes
@@ -17,23 +16,18 @@ use Rattle.program_reader.specs.KeptUnits.{kept_at}
 use Rattle.program_reader.specs.Programs.{IsDemuxedRefused, video_bytes}
 use Rattle.program_reader.specs.Sizes.{AreUnitSizes}
 use Rattle.program_reader.specs.VideoWalk.{IsVideoWalked}
-use Rattle.pes_passing.specs.PassingPackets.{packets_before}
+use Rattle.stream_pass.specs.PassedStream.{HasPackets, IsSoundStream}
 use Rattle.program_pass.specs.declared.read_fault.ReadFault.{ReadFault}
 use Rattle.program_pass.specs.declared.read_fault.ReadFault.TheVariants as faults
 
 -- The first of these PIDs has these PES packets in a file.
-pub record HasVideo (file pids : List ℕ) (packets : List PesUnit) : Type 0 where
-  pub pid : ℕ
-  pub pid_is : slice_get pids 0 ≡ Some pid
-  pub packets_are : packets ≡ packets_before file pid (piece_count file)
+abbrev pub HasVideo : (file pids : List ℕ) → List PesUnit → Type 0
+HasVideo file pids packets = HasPackets file pids 0 packets
 
 -- No transport packet of a file on these PIDs is refused, and the first of them has these PES packets, no more than a program may have of a stream; nor is the
 -- file longer than a program's may be.
-pub record IsSoundVideo (file pids : List ℕ) (packets : List PesUnit) : Type 0 where
-  pub sound : AreStreamsSound file pids
-  pub has : HasVideo file pids packets
-  pub short : length file ≤ FILE_BYTES_MOST
-  pub few : length packets ≤ PES_PACKETS_MOST
+abbrev pub IsSoundVideo : (file pids : List ℕ) → List PesUnit → Type 0
+IsSoundVideo file pids packets = IsSoundStream file pids 0 packets
 
 -- The video is that of everything that may be taken out of the file, which has these PES packets as its video, with the sizes of its units' versions where they
 -- are wanted.

@@ -1,9 +1,10 @@
 //! What a program's file holds, read while its bytes come out of a source, so that none of them are kept.
 //!
-//! `read_video` reads the video among the carried streams of a map: its PES packets, which `PassingPackets` of `pes_passing` gives, go one by one into a `VideoWalk` of
-//! `program_reader`. Stands on these two and on `ts_demux`.
+//! `read_video` reads the video among the carried streams of a map: its PES packets go one by one, by `pass_stream` of `stream_pass`, into a `VideoWalk` of
+//! `program_reader`. `laws` say what that is to those who read a file whole. Stands on these two and on `ts_demux`.
 #![tactic(auto)]
 
+pub mod laws;
 mod passed_video;
 mod read_fault;
 

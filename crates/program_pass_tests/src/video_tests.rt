@@ -1,18 +1,27 @@
 //! Videos, out of sources that give the file in pieces.
-ghost use Rattle.std.specs.Prelude.{◌≡◌, ◌≤◌, length};
+ghost use Rattle.std.specs.Prelude.{◌≡◌, ℕ, ◌≤◌, [], List, length, All, Err, IfOk};
+ghost use Rattle.ts_demux.specs.declared.demuxed.Demuxed.{Demuxed};
+ghost use Rattle.ts_demux.specs.Demux.{IsDemuxed};
+ghost use Rattle.job_report.specs.declared.job.Form.TheVariants.{Ts};
+ghost use Rattle.elementary_streams.specs.NearTimes.{IsNear};
+ghost use Rattle.program_reader.specs.declared.limits.TheConstants.{PES_PACKETS_MOST};
+ghost use Rattle.program_reader.specs.declared.program_fault.ProgramFault.{ProgramFault};
+ghost use Rattle.program_reader.specs.Programs.{IsProgramRefused};
+ghost use Rattle.program_reader.specs.VideoWalk.{IsVideoWalked};
+ghost use Rattle.program_pass.specs.declared.read_fault.ReadFault.TheVariants as faults;
 
 use arrayvec::ArrayVec;
 use job_report::Form;
 use program_maker::make_program;
-use program_pass::{ReadFault, read_video};
+use program_pass::{ReadFault, laws, read_video};
 use program_reader::{Program, ProgramFault, SizesWanted, SourceKind, WalkedVideo, read_program};
 use psi_tables::Stream;
-use shelf_io::Reading;
+use shelf_io::{Reading, SOURCE_BYTES_MOST, SliceSource};
 use shelf_kinds::{CalmShelf, ShortShelf};
 use std::alloc::{AllocError, Global};
 use std::test::Fail;
 use stream_constants::packets::{PACKET_BYTES, SYNC_BYTE};
-use ts_demux::{DemuxFault, PacketBuffer, PassFault};
+use ts_demux::{DemuxFault, Demuxed, PacketBuffer, PassFault, demux};
 
 /// How many bytes a call gives at most: one, parts of a packet, and the whole file.
 const GIVEN: [u32; 5] = [1, 187, 188, 189, 4_000_000_000];
@@ -49,6 +58,37 @@ fn video_of(
         coarser: &[],
     };
     Ok(read_video(alloc, &mut buffer, &mut source, &streams, wanted))
+}
+
+/// The video of a program that is taken out of a file, read as that file passes: what a caller owes and knows is shown by the clauses alone.
+fn program_video(
+    alloc: Global,
+    buffer: &mut PacketBuffer,
+    file: &[u8],
+    program: &Demuxed,
+) -> Result<WalkedVideo, ReadFault>
+    requires empty { buffer.old ≡ [] }
+    requires taken_out { (number : ℕ) × (drop : List ℕ) × IsDemuxed file.now number drop program.now }
+    ensures video { IfOk result (IsVideoWalked program.now) }
+    ensures near { IfOk result (λ video. IsNear 0 video.first.stated) }
+    ensures refused { (number : ℕ) (drop : List ℕ) (fault : ProgramFault) → IsDemuxed file.now number drop program.now →
+        ((demuxed : Demuxed) → IsDemuxed file.now number drop demuxed → All (λ stream. length stream.units ≤ PES_PACKETS_MOST) demuxed.audios) →
+        result ≡ Err (faults.Refused fault) → IsProgramRefused Ts file.now number drop fault }
+{
+    if file.len() as u64 > SOURCE_BYTES_MOST {
+        return Err(ReadFault::Refused(ProgramFault::OutOfMemory));
+    }
+    ts_demux::laws::carried_pids_differ();
+    laws::of_told_file();
+    laws::as_demuxed();
+    laws::as_refused();
+    laws::near_times();
+    let wanted = SizesWanted {
+        are_wanted: false,
+        coarser: &[],
+    };
+    let streams = program.map.streams.as_slice();
+    read_video(alloc, buffer, &mut SliceSource::new(file), streams, wanted)
 }
 
 /// True where a video has the units of a program, in the same places and with the same times, kinds and roles.
@@ -92,6 +132,16 @@ fn a_program_whatever_a_call_gives(rt: HostRuntime) -> Result<(), Fail> {
         assert!(rt; are_in_time(&video, 6));
         assert_eq!(rt; (video.units_dropped, video.pes_dropped), (0, 0));
     }
+    Ok(())
+}
+
+#[test]
+fn a_program_that_is_taken_out(rt: HostRuntime) -> Result<(), Fail> {
+    let file = make_program(rt.alloc(), 1, 6)?;
+    let program = demux(rt.alloc(), file.as_slice(), 1, &[])?;
+    let mut buffer = PacketBuffer::new(vec![in rt.alloc(); 0u8; PACKET_BYTES]?);
+    let video = program_video(rt.alloc(), &mut buffer, file.as_slice(), &program)?;
+    assert!(rt; are_in_time(&video, 6));
     Ok(())
 }
 
