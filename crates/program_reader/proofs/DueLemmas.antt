@@ -7,7 +7,7 @@ use Rattle.std.proofs.lemmas.List.{take_more, map-append}
 use Rattle.std.proofs.lemmas.List.Elements.{All-append, Contains-append_left, Contains-append_right}
 use Rattle.program_reader.specs.declared.kept_units.KeptUnit.{KeptUnit}
 use Rattle.program_reader.specs.declared.program.UnitSource.{UnitSource}
-use Rattle.program_reader.specs.Private.Dues.{Lowers, IsDueUnit, AreDueUnits}
+use Rattle.program_reader.specs.Dues.{Lowers, IsDueUnit, AreDueUnits}
 use Rattle.program_reader.specs.Programs.{IsBase}
 
 le_trans : (a b c : ℤ) → a ≤ℤ b → b ≤ℤ c → a ≤ℤ c

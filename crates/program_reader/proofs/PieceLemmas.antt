@@ -36,8 +36,8 @@ use Rattle.audio_frames.specs.declared.frame.Frame.{Frame}
 use Rattle.elementary_streams.specs.declared.pes_packets.PlacedPacket.{PlacedPacket}
 use Rattle.program_reader.specs.declared.program.AudioPiece.{AudioPiece}
 use Rattle.program_reader.specs.Audio.{time_of_byte, payload_place, packet_size, piece_places, piece_size, placed_pieces, IsDue, IsPiece, ArePieces}
-use Rattle.program_reader.specs.Private.Dues.{IsTimeFrom}
-use Rattle.program_reader.specs.Private.Pieces.{IsSized, Follow, TellsFrom, HasTimes, AddsPieces}
+use Rattle.program_reader.specs.Dues.{Follow, HasTimes, IsTimeFrom}
+use Rattle.program_reader.specs.Private.Pieces.{IsSized, TellsFrom, AddsPieces}
 
 -- where the k-th piece of a PES packet stands
 abbrev pub place_of : PlacedPacket → ℕ → ℕ → PlacedPacket × ℕ × ℕ

@@ -85,9 +85,9 @@ use Rattle.program_reader.specs.Programs.{HasFewPackets, video_bytes, video_pack
 use Rattle.program_reader.specs.Units.{AreInOrder, AreKept, all, but_last, last_of, IsBroken, IsUnitsFault}
 use Rattle.elementary_streams.specs.NearTimes.{IsNear, IsTime}
 use Rattle.program_reader.specs.Private.AudioStreams.{AreStreamsRead}
-use Rattle.program_reader.specs.Private.Dues.{IsTimeFrom, Lowers, AreDueUnits}
+use Rattle.program_reader.specs.Dues.{AreDueUnits, frame_times, IsTimeFrom, Lowers}
 use Rattle.program_reader.specs.Private.KeptUnits.{IsVideo, AreUnitsKept}
-use Rattle.program_reader.specs.Private.Sources.{IsVideoRead, AreStreamsFrom, frame_times, read_times}
+use Rattle.program_reader.specs.Private.Sources.{IsVideoRead, AreStreamsFrom, read_times}
 use Rattle.elementary_streams.specs.Taken.{AreTaken}
 use Rattle.program_reader.proofs.DueLemmas.{lowers_both}
 use Rattle.elementary_streams.proofs.StreamLemmas.{bytes_in, taken_bytes, taken_count, placed_count}

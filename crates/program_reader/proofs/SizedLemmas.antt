@@ -55,7 +55,7 @@ use Rattle.program_reader.specs.KeptUnits.{row_of, kept_at}
 use Rattle.program_reader.specs.Sizes.{AreSizedSoFar, AreProgramSizes, AreUnitSizes, stands_at}
 use Rattle.program_reader.specs.Intervals.{nearest}
 use Rattle.program_reader.specs.Units.{IsNext, state_behind, unit_bytes}
-use Rattle.program_reader.specs.Private.Dues.{AreDueUnits}
+use Rattle.program_reader.specs.Dues.{AreDueUnits}
 use Rattle.program_reader.specs.Private.SizedUnits.{IsSizedBehind, IsSizedFound}
 use Rattle.program_reader.specs.Private.TimedPictures.{broken_answer}
 use Rattle.program_reader.specs.declared.limits.TheConstants.{UNIT_BYTES_MOST}

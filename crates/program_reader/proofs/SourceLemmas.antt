@@ -16,8 +16,7 @@ use Rattle.program_reader.specs.declared.program.AudioPiece.{AudioPiece}
 use Rattle.program_reader.specs.declared.program.AudioSource.{AudioSource}
 use Rattle.elementary_streams.specs.Packets.{taken, pes_payload_of, joined, placed_from}
 use Rattle.program_reader.specs.Audio.{time_of_byte, payload_place, placed_pieces, ArePieces, IsAudioSource, AreAudioSources}
-use Rattle.program_reader.specs.Private.Dues.{IsTimeFrom}
-use Rattle.program_reader.specs.Private.Pieces.{Follow, HasTimes}
+use Rattle.program_reader.specs.Dues.{Follow, HasTimes, IsTimeFrom}
 use Rattle.program_reader.specs.Private.Sources.{IsStreamFrom, AreStreamsFrom}
 use Rattle.elementary_streams.proofs.StreamLemmas.{placed_count, taken_count, bytes_in, taken_bytes, HasPayload, taken_payloads}
 use Rattle.elementary_streams.proofs.TakenLemmas.{placed_at}

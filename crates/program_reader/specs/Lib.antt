@@ -5,6 +5,7 @@ pub mod Intervals
 pub mod Units
 pub mod Audio
 pub mod AudioTypes
+pub mod Dues
 pub mod Programs
 pub mod Carry
 pub mod Sizes

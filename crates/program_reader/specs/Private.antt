@@ -1,5 +1,4 @@
 pub mod AudioStreams
-pub mod Dues
 pub mod FrameWalk
 pub mod Frames
 pub mod KeptUnits

@@ -3,8 +3,7 @@ ghost use Rattle.std.specs.Prelude.{◌≡◌, ◌<◌, ◌^◌, ◌∷◌, [], 
 ghost use Rattle.program_reader.specs.Audio.{IsDue};
 ghost use Rattle.program_reader.specs.Programs.{IsBase};
 ghost use Rattle.elementary_streams.specs.NearTimes.{IsTime};
-ghost use Rattle.program_reader.specs.Private.Dues.{IsTimeFrom, Lowers, IsDueUnit, AreDueUnits};
-ghost use Rattle.program_reader.specs.Private.Sources.{frame_times};
+ghost use Rattle.program_reader.specs.Dues.{AreDueUnits, frame_times, IsDueUnit, IsTimeFrom, Lowers};
 
 use crate::kept_units::KeptUnit;
 use crate::program::UnitSource;

@@ -73,7 +73,7 @@ pub fn due_program(
 }
 
 /// How many PES packets of audio streams are dropped.
-fn audio_packets_dropped(streams: &[ReadStream]) -> u32
+pub fn audio_packets_dropped(streams: &[ReadStream]) -> u32
     requires few { length streams.now ≤ AUDIOS_MOST }
     requires each { All (λ one. one.dropped ≤ 1) streams.now }
     ensures sum { result ≡ sum_by (λ one. one.dropped) streams.now }

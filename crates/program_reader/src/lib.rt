@@ -36,7 +36,10 @@ mod video_stream;
 mod video_walk;
 
 pub use carry::unit_weight;
+pub use due::{DueClock, EarliestTime, due_units};
+pub use due_program::audio_packets_dropped;
 pub use kept_units::KeptUnit;
+pub use pieces::audio_pieces;
 pub use program::{AudioPiece, AudioSource, Program, UnitSource};
 pub use program_fault::{ProgramFault, SourceKind, audio_refused, demux_refused, pes_refused};
 pub use reading::{SizedProgram, read_program, read_sized_program};

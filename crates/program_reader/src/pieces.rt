@@ -2,8 +2,8 @@
 ghost use Rattle.std.specs.Prelude.{◌≡◌, ◌≤◌, ◌<◌, ◌+◌, ◌-◌, ◌/◌, ◌^◌, ℕ, length, All, IfOk, OnOk};
 ghost use Rattle.program_reader.specs.Audio.{time_of_byte, payload_place, packet_size, piece_size, placed_pieces, IsPiece, ArePieces};
 ghost use Rattle.elementary_streams.specs.NearTimes.{IsTime};
-ghost use Rattle.program_reader.specs.Private.Dues.{IsTimeFrom};
-ghost use Rattle.program_reader.specs.Private.Pieces.{HasTimes, IsSized, Follow, AddsPieces, TellsFrom};
+ghost use Rattle.program_reader.specs.Dues.{Follow, HasTimes, IsTimeFrom};
+ghost use Rattle.program_reader.specs.Private.Pieces.{IsSized, AddsPieces, TellsFrom};
 
 use crate::due::DueClock;
 use crate::frame_walk::byte_time;

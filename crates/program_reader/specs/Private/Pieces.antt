@@ -4,7 +4,6 @@ use Rattle.audio_frames.specs.declared.frame.Frame.{Frame}
 use Rattle.elementary_streams.specs.declared.pes_packets.PlacedPacket.{PlacedPacket}
 use Rattle.program_reader.specs.declared.program.AudioPiece.{AudioPiece}
 use Rattle.program_reader.specs.Audio.{time_of_byte, payload_place, packet_size, piece_places, ArePieces}
-use Rattle.program_reader.specs.Private.Dues.{IsTimeFrom}
 
 -- a PES packet at a place of its stream: its payload has bytes, and all places are small
 pub record IsSized (at : ℕ) (packet : PlacedPacket) : Type 0 where
@@ -12,18 +11,9 @@ pub record IsSized (at : ℕ) (packet : PlacedPacket) : Type 0 where
   pub small : packet.end < 2 ^ 41
   pub place : at + 2 ^ 42 < 2 ^ 64
 
--- PES packets, each with payload bytes, whose payloads stand behind a place one behind the other
-abbrev pub Follow : ℕ → List PlacedPacket → Type 0
-Follow from [] = Unit {0}
-Follow from (packet ∷ packets) = (from ≤ packet.from) × (packet.from < packet.end) × (packet.end < 2 ^ 41) × Follow packet.end packets
-
 -- frames tell the same times of payload bytes as others, from a place on
 abbrev pub TellsFrom : ℕ → List Frame → List Frame → Type 0
 TellsFrom place frames left = (later : ℕ) → place ≤ later → time_of_byte left later ≡ time_of_byte frames later
-
--- each byte of a PES packet has a time that isn't before the earliest one
-abbrev pub HasTimes : ℤ → List Frame → PlacedPacket → Type 0
-HasTimes earliest frames packet = (byte : ℕ) → byte < packet_size packet → IsTimeFrom earliest (time_of_byte frames (payload_place packet byte))
 
 -- the pieces of a PES packet are added to some
 pub record AddsPieces (start : ℕ) (earliest : ℤ) (frames : List Frame) (packet : PlacedPacket) (at : ℕ) (old new : List AudioPiece) : Type 0 where

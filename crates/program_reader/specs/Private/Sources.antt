@@ -13,7 +13,7 @@ use Rattle.program_reader.specs.KeptUnits.{AreRows}
 use Rattle.program_reader.specs.Programs.{HasPictures}
 use Rattle.elementary_streams.specs.NearTimes.{IsNear, IsTime}
 use Rattle.elementary_streams.specs.Audio.{IsStreamRead}
-use Rattle.program_reader.specs.Private.Dues.{IsTimeFrom}
+use Rattle.program_reader.specs.Dues.{frame_times, IsTimeFrom}
 use Rattle.elementary_streams.specs.Taken.{AreTaken}
 
 -- what is taken out of a file, by its parts
@@ -43,10 +43,6 @@ AreStreamsFrom earliest [] [] = Unit {0}
 AreStreamsFrom earliest [] (_ ∷ _) = ⊥
 AreStreamsFrom earliest (_ ∷ _) [] = ⊥
 AreStreamsFrom earliest (stream ∷ streams) (one ∷ more) = IsStreamFrom earliest stream one × AreStreamsFrom earliest streams more
-
--- the times of the frames of streams, in ticks
-abbrev pub frame_times : List ReadStream → List ℤ
-frame_times read = flat_map (λ one. map (λ frame. frame.time) one.frames) read
 
 -- the times of units and of the frames of streams
 abbrev pub read_times : List KeptUnit → List ReadStream → List ℤ

@@ -1,5 +1,5 @@
 use Rattle.std.proofs.Common.{take}
-use Rattle.program_reader.specs.Private.Dues.{AreDueUnits}
+use Rattle.program_reader.specs.Dues.{AreDueUnits}
 use Rattle.program_reader.proofs.due.due_units.Given as goal
 
 abbrev pub invariant-loop-unit : goal.invariant-loop-unit

@@ -2,7 +2,7 @@ use Rattle.std.proofs.Common.{ℕ, ◌+◌, List, All, map, ap, ◌∙◌, sym, 
 use Rattle.ts_demux.specs.declared.demuxed.AudioStream.{AudioStream}
 use Rattle.program_reader.specs.declared.kept_units.KeptUnit.{KeptUnit}
 use Rattle.program_reader.specs.KeptUnits.{kept_at}
-use Rattle.program_reader.specs.Private.Dues.{IsTimeFrom}
+use Rattle.program_reader.specs.Dues.{IsTimeFrom}
 use Rattle.program_reader.specs.Private.Sources.{AreStreamsFrom, with_video}
 use Rattle.program_reader.proofs.ProgramLemmas.{IsClockOf, clock_of, program_is, all_dropped, streams_dropped, video_dropped}
 use Rattle.program_reader.proofs.SizedLemmas.{due_places}

@@ -1,5 +1,5 @@
 use Rattle.std.proofs.Common.{map, take}
-use Rattle.program_reader.specs.Private.Dues.{Lowers}
+use Rattle.program_reader.specs.Dues.{Lowers}
 use Rattle.program_reader.proofs.due.EarliestTime.of_frames.Given as goal
 
 abbrev pub invariant-loop-frame : goal.invariant-loop-frame

@@ -1,6 +1,5 @@
 use Rattle.std.proofs.Common.{take}
-use Rattle.program_reader.specs.Private.Dues.{Lowers}
-use Rattle.program_reader.specs.Private.Sources.{frame_times}
+use Rattle.program_reader.specs.Dues.{frame_times, Lowers}
 use Rattle.program_reader.proofs.due.EarliestTime.of_streams.Given as goal
 
 abbrev pub invariant-loop-stream : goal.invariant-loop-stream

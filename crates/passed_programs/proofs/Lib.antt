@@ -1,0 +1,3 @@
+pub mod CutUp
+pub mod ReadOff
+pub mod OfFile

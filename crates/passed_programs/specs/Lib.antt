@@ -1,0 +1,2 @@
+pub mod PassedProgram
+pub mod Private
