@@ -1,0 +1,3 @@
+pub mod EsWindow
+pub mod PassingBytes
+pub mod Private
