@@ -15,6 +15,7 @@ use Rattle.mux_writer.specs.declared.layout.Layout.{Layout}
 use Rattle.mux_writer.specs.Layout.{map_pid, stream_pid, stream_pids}
 use Rattle.mux_writer.specs.Output.{IsOfLayout, packet_in, output_packet, payload_count, pid_of}
 use Rattle.mux_writer.specs.Pieces.{Pieces}
+use Rattle.mux_writer.specs.Writing.{Writing}
 use Rattle.mux_writer.specs.Private.Writer.{CountersAre, counted, one_more}
 
 -- ---- the counts
@@ -107,3 +108,14 @@ told-packet layout has slot told rows n counters bytes few counted all within ar
     IfSome_then told made
     (λ pieces is. packet-counted layout has slot pieces (take n rows) n (get_or rows n Null) counters bytes few counted
     (All-get_or (IsOfLayout layout has) rows n Null within all) are is)
+
+-- the same for a writer that stands there
+pub told-next : (writing : Writing) (layout : Layout) (slot : ℕ) (rows : List Sent) (n : ℕ) (has : (stream item piece : ℕ) → Type 0) (told : Option Pieces) (counters bytes : List ℕ)
+    → writing ≡ record { layout = layout; slot = slot; rows = rows; at = n } → length layout.maps.items ≤ 8 → All (λ (pid : ℕ). pid < PIDS) (stream_pids layout)
+    → All (IsOfLayout writing.layout has) writing.rows → n < length rows → CountersAre layout (take n rows) counters
+    → IfSome told (λ pieces. (count : ℕ) → slice_index counters (pid_of layout (get_or rows n Null)) ≡ count % 256
+    → bytes ≡ written (output_packet layout slot pieces count n (get_or rows n Null)))
+    → IfSome told (λ pieces. bytes ≡ written (packet_in writing.layout writing.slot pieces writing.rows writing.at))
+told-next writing layout slot rows n has told counters bytes is few counted all within are made =
+    subst (λ (w : Writing). IfSome told (λ pieces. bytes ≡ written (packet_in w.layout w.slot pieces w.rows w.at))) (sym is)
+    (told-packet layout has slot told rows n counters bytes few counted (subst (λ (w : Writing). All (IsOfLayout w.layout has) w.rows) is all) within are made)

@@ -6,4 +6,5 @@ pub mod Counting
 pub mod Fronts
 pub mod Told
 pub mod Layouts
+pub mod Writing
 pub mod Written

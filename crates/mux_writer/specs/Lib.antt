@@ -4,3 +4,4 @@ pub mod Output
 pub mod Pieces
 pub mod Private
 pub mod Tables
+pub mod Writing

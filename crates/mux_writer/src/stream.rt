@@ -15,6 +15,7 @@ use crate::layout::{Layout, map_pid, video_pid};
 use crate::packets::{PAT_PID, full_packet, null_packet, piece_packet};
 use crate::piece_source::PieceSource;
 use crate::prepared::Prepared;
+use crate::stream_writer::StreamWriter;
 use pcr_writer::pcr_packet;
 use shelf_io::{Fault, Sink};
 use slot_rule::{Sent, SlotList};
@@ -52,31 +53,22 @@ pub fn write_stream<K: Sink, P: PieceSource>(
     ensures keeps_pieces { P.keeps pieces.old pieces.new }
     ensures same_pieces { P.told pieces.new ≡ P.told pieces.old }
 {
-    let prepared = Prepared::of(layout);
-    let mut counters = Counters::new();
+    let mut writer = StreamWriter::new(layout, slot, schedule);
     let mut gathered = Gathered::new();
     let mut packet = [0; PACKET_BYTES];
-    let rows = schedule.rows.as_slice();
-    for n in 0..schedule.slots {
-        let sent = rows[n as usize];
-        slot_packet(
-            layout,
-            slot,
-            &prepared,
-            &mut counters,
-            n,
-            sent,
-            pieces,
-            &mut packet,
-        )?;
+    loop {
+        match writer.next(pieces, &mut packet) {
+            Ok(true) => {}
+            Ok(false) => return gathered.put(to),
+            Err(fault) => return Err(fault),
+        }
         gathered.make_room(to)?;
         gathered.push(&packet);
     }
-    gathered.put(to)
 }
 
 /// Writes the packet of slot `n`, in which `sent` stands, and counts it. A fault is the piece source's own.
-fn slot_packet<P: PieceSource>(
+pub(crate) fn slot_packet<P: PieceSource>(
     layout: &Layout,
     slot: u32,
     prepared: &Prepared,
@@ -94,6 +86,7 @@ fn slot_packet<P: PieceSource>(
     ensures packet { OnOk result (IfSome (P.told pieces.old) (λ told. (count : ℕ) →
         slice_index counters.old (pid_of layout.now sent) ≡ count % 256 → into.new ≡ written (output_packet layout.now slot told count n sent))) }
     ensures counters { OnOk result (counters.new ≡ counted layout.now sent counters.old) }
+    ensures kept { OnErr result (counters.new ≡ counters.old) }
 
     ensures causes { SinkCauses P.faults (IsErrOf result Fault.Failed) (IsErrOf result Fault.Missing) pieces.old pieces.new }
     ensures keeps { P.keeps pieces.old pieces.new }
@@ -190,6 +183,7 @@ fn stream_packet<P: PieceSource>(
     ensures packet { OnOk result (IfSome (P.told pieces.old) (λ told.
         into.new ≡ written (piece_record (slice_index prepared.now.pids.items stream) (slice_index counters.old (slice_index prepared.now.pids.items stream) % 16) (told stream item piece)))) }
     ensures counters { OnOk result (counters.new ≡ one_more (slice_index prepared.now.pids.items stream) counters.old) }
+    ensures kept { OnErr result (counters.new ≡ counters.old) }
 
     ensures causes { SinkCauses P.faults (IsErrOf result Fault.Failed) (IsErrOf result Fault.Missing) pieces.old pieces.new }
     ensures keeps { P.keeps pieces.old pieces.new }

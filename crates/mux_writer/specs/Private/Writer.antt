@@ -1,14 +1,16 @@
 -- What the writer of a stream keeps.
-use Rattle.std.specs.Prelude.{◌≡◌, ℕ, ◌+◌, ◌%◌, ◌<◌, ◌≤◌, List, ◌++◌, length, All, slice_index, slice_set}
+use Rattle.std.specs.Prelude.{◌≡◌, ℕ, ◌+◌, ◌%◌, ◌<◌, ◌≤◌, List, ◌++◌, length, take, All, slice_index, slice_set}
 use Rattle.shelf_io.specs.Sink.{Told, with_bytes}
-use Rattle.version_table.specs.declared.limits.TheConstants.{PROGRAMS_MOST}
+use Rattle.version_table.specs.declared.limits.TheConstants.{PROGRAMS_MOST, SLOT_MOST}
 use Rattle.slot_rule.specs.declared.sent.Sent.{Sent}
 use Rattle.slot_rule.specs.declared.sent.Sent.TheVariants.{Null, Pat, Pmt, Pcr, Video, Audio}
 use Rattle.mux_writer.specs.declared.counters.TheConstants.{PIDS}
 use Rattle.mux_writer.specs.declared.layout.Layout.{Layout}
 use Rattle.mux_writer.specs.declared.prepared.Prepared.{Prepared}
-use Rattle.mux_writer.specs.Layout.{map_pid, stream_pid, stream_pids}
+use Rattle.mux_writer.specs.declared.stream_writer.StreamWriter.TheInside.{Inside}
+use Rattle.mux_writer.specs.Layout.{IsLayout, map_pid, stream_pid, stream_pids}
 use Rattle.mux_writer.specs.Output.{payload_count}
+use Rattle.mux_writer.specs.Writing.{Writing}
 use Rattle.mux_writer.specs.Tables.{pat_payload, pmt_payloads}
 
 -- what is made once for a stream with this layout
@@ -42,3 +44,25 @@ pub record HoldsRest (old new : Told) (held bytes : List ℕ) : Type 0 where
   pub front : List ℕ
   pub added : new ≡ with_bytes old front
   pub whole : front ++ held ≡ bytes
+
+-- ---- a writer of one slot after the other
+
+-- what it writes, and where it stands
+abbrev pub writing_of : Inside → Writing
+writing_of writer = record { layout = writer.layout.now; slot = writer.slot; rows = writer.rows.now; at = writer.next }
+
+-- its counters are those behind the slots before the next one
+pub record IsWriter (writer : Inside) : Type 0 where
+  pub layout : IsLayout writer.layout.now
+  pub slot : writer.slot ≤ SLOT_MOST
+  pub slots : length writer.rows.now ≡ writer.slots
+  pub within : writer.next ≤ writer.slots
+  pub prepared : IsPrepared writer.layout.now writer.prepared
+  pub counters : CountersAre writer.layout.now (take writer.next writer.rows.now) writer.counters
+
+-- these rows are written
+pub record IsWriting (layout : Layout) (slot : ℕ) (rows : List Sent) (writing : Writing) : Type 0 where
+  pub layout_is : writing.layout ≡ layout
+  pub slot_is : writing.slot ≡ slot
+  pub rows_are : writing.rows ≡ rows
+  pub within : writing.at ≤ length rows
