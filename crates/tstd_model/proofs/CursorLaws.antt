@@ -26,7 +26,7 @@ bytes_at-instants step at (part ∷ ps) = ap (λ (l : List ℕ). at ∷ l) (byte
 append-both : {A : Type 0} (xs xs' ys ys' : List A) → xs ≡ xs' → ys ≡ ys' → xs ++ ys ≡ xs' ++ ys'
 append-both {A} xs xs' ys ys' first second = ap (λ (l : List A). l ++ ys) first ∙ ap (λ (l : List A). xs' ++ l) second
 
-length-parts_of : (arrival : Arrival) → HasHeaderWithin arrival → length (parts_of arrival) ≡ PACKET_BYTES
+pub length-parts_of : (arrival : Arrival) → HasHeaderWithin arrival → length (parts_of arrival) ≡ PACKET_BYTES
 unfolding parts_of
 length-parts_of arrival fits =
     let overhead = replicate (PACKET_BYTES - arrival.payload) Overhead in

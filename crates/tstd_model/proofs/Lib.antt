@@ -6,6 +6,9 @@ pub mod DecoderWalks
 pub mod Examples
 pub mod FaultLaws
 pub mod HeaderExamples
+pub mod KeepLaws
+pub mod KeepWalks
+pub mod KeptPackets
 pub mod LateLaws
 pub mod Limits
 pub mod OldLaws

@@ -11,7 +11,7 @@ abbrev pub IsFirstExcess : (size : ℕ) → (ins outs : List ℕ) → Option ℕ
 IsFirstExcess size ins outs None = (x : ℕ) → came x ins ≤ size + came x outs
 IsFirstExcess size ins outs (Some at) = (size + came at outs < came at ins) × ((x : ℕ) → x < at → came x ins ≤ size + came x outs)
 
-first_over-passes : (i o : ℕ) (ins outs : List ℕ) → o ≤ i → first_over (i ∷ ins) (o ∷ outs) ≡ first_over ins outs
+pub first_over-passes : (i o : ℕ) (ins outs : List ℕ) → o ≤ i → first_over (i ∷ ins) (o ∷ outs) ≡ first_over ins outs
 unfolding first_over
 first_over-passes i o ins outs le = cond-true (leb o i) (first_over ins outs) (Some i) (le-leb o i le)
 

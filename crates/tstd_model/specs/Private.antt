@@ -1,4 +1,5 @@
 pub mod Cursors
+pub mod Keeps
 pub mod Limits
 pub mod Scans
 pub mod Server

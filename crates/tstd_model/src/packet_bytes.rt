@@ -127,7 +127,7 @@ impl<'a> PacketBytes<'a> {
 }
 
 /// The instant at which the first byte of a slot comes.
-fn first_instant(slot_no: u32, step: u64) -> u64
+pub fn first_instant(slot_no: u32, step: u64) -> u64
     requires { step ≤ 2 ^ 19 }
     ensures value { result ≡ PACKET_BYTES * slot_no * step }
     ensures small { result ≤ 2 ^ 59 }

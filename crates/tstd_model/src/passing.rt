@@ -1,7 +1,8 @@
-ghost use Rattle.std.specs.Prelude.{◌≡◌, ◌↔◌, IsTrue};
+ghost use Rattle.std.specs.Prelude.{◌≡◌, ◌≤◌, ◌↔◌, IsTrue};
 ghost use Rattle.tstd_model.specs.Private.Cursors.{Gives, is_wanted};
+ghost use Rattle.tstd_model.specs.Private.Keeps.{wanted_count};
 
-use crate::decoder_input::PacketPart;
+use crate::decoder_input::{Arrival, PacketPart};
 use crate::instants::Instants;
 use crate::tb_bytes::TbBytes;
 use std::marker::Model;
@@ -23,6 +24,17 @@ impl Wanted {
         match self {
             Wanted::Payload => !matches!(part, PacketPart::Overhead),
             Wanted::DataAlone => matches!(part, PacketPart::Data),
+        }
+    }
+
+    /// How many bytes of a packet are looked at.
+    pub fn count(self, packet: &Arrival) -> u64
+        ensures value { result ≡ wanted_count self packet.now }
+        ensures few { result ≤ 255 }
+    {
+        match self {
+            Wanted::Payload => u64::from(packet.payload),
+            Wanted::DataAlone => u64::from(packet.payload.saturating_sub(packet.header)),
         }
     }
 }

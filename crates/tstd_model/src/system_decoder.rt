@@ -1,9 +1,9 @@
-ghost use Rattle.std.specs.Prelude.{◌≡◌, ◌+◌, ◌<◌, ◌≤◌, ◌^◌, map, length};
+ghost use Rattle.std.specs.Prelude.{◌≡◌, ◌+◌, ◌<◌, ◌≤◌, ◌^◌, None, IsTrue, map, length};
 ghost use Rattle.std.specs.List.{All};
 ghost use Rattle.std.specs.List.Sorted.{IsStrictlyIncreasing, IsNonDecreasing};
 ghost use Rattle.stream_constants.specs.declared.decoder.TheConstants.{TB_BYTES, VIDEO_BYTES, AUDIO_BYTES, SYSTEM_BYTES};
 ghost use Rattle.tstd_model.specs.PacketBytes.{HasHeaderWithin, parts, arrives, kept};
-ghost use Rattle.tstd_model.specs.Decoder.{Video, tb_subticks, IsInLevel, leave_tb, transport_buffer, eb_bytes, moves};
+ghost use Rattle.tstd_model.specs.Decoder.{Video, tb_subticks, IsInLevel, leave_tb, transport_buffer, eb_bytes, moves, removed};
 ghost use Rattle.tstd_model.specs.Faults.{IsFirstOrNone};
 ghost use Rattle.tstd_model.specs.Private.Cursors.{instants_of, parts_in, is_wanted};
 ghost use Rattle.tstd_model.specs.Private.Limits.{InLimits};
@@ -13,13 +13,17 @@ ghost use Rattle.tstd_model.specs.Private.Walks.{main_buffer, first_excess, late
 use crate::decoder_input::{Arrival, BufferKind, Removal};
 use crate::earliest::{earlier, earliest};
 use crate::fault::TstdFault;
+use crate::keeping::{keep_arrivals, keep_removals, keep_tb};
 use crate::leaves::{MbLeaves, SystemLeaves};
+use crate::move_runs::{MbRuns, MoveRuns};
 use crate::moves::{Moves, Rooms};
 use crate::packet_bytes::PacketBytes;
 use crate::passing::{Passing, Wanted};
+use crate::passing_runs::PassingRuns;
+use crate::removal_runs::RemovalRuns;
 use crate::removed_bytes::{RemovedByte, RemovedBytes};
 use crate::tb_bytes::TbBytes;
-use crate::walks::{first_late, first_old, first_over};
+use crate::walks::{HOLD_SUBTICKS, first_late, first_old, first_over};
 use stream_constants::clock::BYTE_SUBTICKS_PER_TICK;
 use stream_constants::decoder::{
     AUDIO_BYTES, AUDIO_TB_SUBTICKS, EB_UNIT_BYTES, SYSTEM_BYTES, SYSTEM_TB_SUBTICKS, TB_BYTES,
@@ -80,7 +84,8 @@ fn behind(slot_no: u32) -> u64
 
 /// Subticks that a byte takes to leave TB.
 fn tb_subticks(kind: BufferKind) -> u64
-    ensures { result ≡ tb_subticks kind }
+    ensures value { result ≡ tb_subticks kind }
+    ensures most { result ≤ 2 ^ 20 }
 {
     match kind {
         BufferKind::Video { vbv: _ } => VIDEO_TB_SUBTICKS,
@@ -152,11 +157,121 @@ impl<'a> SystemDecoder<'a> {
         )
     }
 
+    /// The bytes that are removed, removal by removal.
+    fn removal_runs(&self) -> RemovalRuns<'a>
+        requires { InLimits self.now }
+        ensures { result ≡ removed self.now.removals.now }
+    {
+        RemovalRuns::new(self.removals)
+    }
+
+    /// When wanted bytes come into the buffer behind TB, packet by packet.
+    fn passing_runs(&self, wanted: Wanted) -> PassingRuns<'a>
+        requires { InLimits self.now }
+        ensures { result ≡ kept (is_wanted wanted) (parts self.now.arrivals.now) (leave_tb self.now.slot self.now.kind self.now.arrivals.now) }
+    {
+        PassingRuns::new(self.slot, tb_subticks(self.kind), wanted, self.arrivals)
+    }
+
+    /// When data moves from MB to EB, packet by packet.
+    fn move_runs(&self, vbv: u8) -> MoveRuns<'a>
+        requires limits { InLimits self.now }
+        requires video { self.now.kind ≡ Video vbv }
+        ensures { result ≡ moves self.now.slot vbv self.now.arrivals.now self.now.removals.now }
+    {
+        MoveRuns::new(
+            self.passing_runs(Wanted::DataAlone),
+            eb_bytes(vbv),
+            self.removal_runs(),
+        )
+    }
+
+    /// Whether TB is surely never over its size.
+    fn tb_keeps(&self) -> bool
+        requires { InLimits self.now }
+        ensures { IsTrue result → first_excess (transport_buffer self.now.slot self.now.kind self.now.arrivals.now) ≡ None }
+    {
+        keep_tb(self.slot, tb_subticks(self.kind), self.arrivals)
+    }
+
+    /// Whether the buffer behind TB is surely never over its size.
+    fn main_keeps(&self) -> bool
+        requires { InLimits self.now }
+        ensures { IsTrue result → first_excess (main_buffer self.now.slot self.now.kind self.now.arrivals.now self.now.removals.now) ≡ None }
+    {
+        match self.kind {
+            BufferKind::Video { vbv } => {
+                let leaves = MbRuns::new(self.arrivals, self.move_runs(vbv));
+                let size = VIDEO_BYTES - eb_bytes(vbv);
+                keep_arrivals(self.slot, self.arrivals, Wanted::Payload, 0, size, leaves)
+            }
+            BufferKind::Audio => {
+                let leaves = self.removal_runs();
+                keep_arrivals(
+                    self.slot,
+                    self.arrivals,
+                    Wanted::Payload,
+                    0,
+                    AUDIO_BYTES,
+                    leaves,
+                )
+            }
+            BufferKind::System => false,
+        }
+    }
+
+    /// Whether each removal surely finds what it takes.
+    fn finds_all(&self) -> bool
+        requires { InLimits self.now }
+        ensures { IsTrue result → late_found self.now.slot self.now.kind self.now.arrivals.now self.now.removals.now ≡ None }
+    {
+        match self.kind {
+            BufferKind::Video { vbv } => keep_removals(self.removals, self.move_runs(vbv)),
+            BufferKind::Audio => keep_removals(self.removals, self.passing_runs(Wanted::Payload)),
+            BufferKind::System => false,
+        }
+    }
+
+    /// Whether surely no byte is held past the limit.
+    fn holds_none(&self) -> bool
+        requires { InLimits self.now }
+        ensures { IsTrue result → old_found self.now.slot self.now.kind self.now.arrivals.now self.now.removals.now ≡ None }
+    {
+        match self.kind {
+            BufferKind::Video { vbv: _ } => {
+                let leaves = self.removal_runs();
+                keep_arrivals(
+                    self.slot,
+                    self.arrivals,
+                    Wanted::DataAlone,
+                    HOLD_SUBTICKS,
+                    0,
+                    leaves,
+                )
+            }
+            BufferKind::Audio => {
+                let leaves = self.removal_runs();
+                keep_arrivals(
+                    self.slot,
+                    self.arrivals,
+                    Wanted::Payload,
+                    HOLD_SUBTICKS,
+                    0,
+                    leaves,
+                )
+            }
+            BufferKind::System => false,
+        }
+    }
+
     /// The first instant at which TB is over its size.
     fn tb_excess(&self) -> Option<u64>
         requires { InLimits self.now }
         ensures { result ≡ first_excess (transport_buffer self.now.slot self.now.kind self.now.arrivals.now) }
     {
+        if self.tb_keeps() {
+            return None;
+        }
         first_over(TB_BYTES, self.bytes(), self.tb_bytes())
     }
 
@@ -165,6 +280,9 @@ impl<'a> SystemDecoder<'a> {
         requires { InLimits self.now }
         ensures { result ≡ first_excess (main_buffer self.now.slot self.now.kind self.now.arrivals.now self.now.removals.now) }
     {
+        if self.main_keeps() {
+            return None;
+        }
         let comes = self.passing(Wanted::Payload);
         match self.kind {
             BufferKind::Video { vbv } => {
@@ -184,6 +302,9 @@ impl<'a> SystemDecoder<'a> {
         requires { InLimits self.now }
         ensures { result ≡ late_found self.now.slot self.now.kind self.now.arrivals.now self.now.removals.now }
     {
+        if self.finds_all() {
+            return None;
+        }
         match self.kind {
             BufferKind::Video { vbv } => first_late(self.moves(vbv), self.removed()),
             BufferKind::Audio => first_late(self.passing(Wanted::Payload), self.removed()),
@@ -196,6 +317,9 @@ impl<'a> SystemDecoder<'a> {
         requires { InLimits self.now }
         ensures { result ≡ old_found self.now.slot self.now.kind self.now.arrivals.now self.now.removals.now }
     {
+        if self.holds_none() {
+            return None;
+        }
         match self.kind {
             BufferKind::Video { vbv: _ } => {
                 first_old(self.bytes(), Wanted::DataAlone, self.removed())

@@ -67,7 +67,7 @@ pub fn first_late<C: Instants>(mut completes: C, mut removed: RemovedBytes) -> O
 }
 
 /// Subticks that a byte may be held.
-const HOLD_SUBTICKS: u64 = SUBTICKS_PER_TICK * HOLD_TICKS;
+pub const HOLD_SUBTICKS: u64 = SUBTICKS_PER_TICK * HOLD_TICKS;
 
 /// Whether a byte is data, and isn't taken within the limit, of those bytes that removals take.
 #[tactic(auto, unfolding(crate::specs::Private::Scans::is_held))]

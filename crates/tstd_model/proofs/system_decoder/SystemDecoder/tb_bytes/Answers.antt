@@ -10,14 +10,14 @@ pub new-requires : goal.new-requires
 new-requires c =
     let decoder = c.args.self.now in
     subst (EachAtMost (2 ^ 62))
-    (sym (bytes-leave_tb decoder.slot c.tb_subticks.result decoder.kind decoder.arrivals.now c.bytes.result c.tb_subticks.ensures c.bytes.ensures.instants))
+    (sym (bytes-leave_tb decoder.slot c.tb_subticks.result decoder.kind decoder.arrivals.now c.bytes.result c.tb_subticks.ensures.value c.bytes.ensures.instants))
     (tb_in_time decoder.slot decoder.arrivals.now c.requires.slot_fits c.requires.slots_rise c.requires.slots_fit decoder.kind)
 
 pub returns-clause-instants : goal.returns-clause-instants
 returns-clause-instants c =
     let decoder = c.args.self.now in
     ap instants_of c.new.ensures
-    ∙ bytes-leave_tb decoder.slot c.tb_subticks.result decoder.kind decoder.arrivals.now c.bytes.result c.tb_subticks.ensures c.bytes.ensures.instants
+    ∙ bytes-leave_tb decoder.slot c.tb_subticks.result decoder.kind decoder.arrivals.now c.bytes.result c.tb_subticks.ensures.value c.bytes.ensures.instants
 
 pub returns-clause-belong : goal.returns-clause-belong
 returns-clause-belong c = ap parts_in c.new.ensures ∙ passed-parts c.tb_subticks.result 0 c.bytes.result ∙ c.bytes.ensures.belong
