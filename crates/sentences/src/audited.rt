@@ -3,7 +3,7 @@
 
 use crate::amounts::{Rate, Seconds};
 use crate::clock::span_to;
-use crate::crowd::crowd_in;
+use crate::crowd::TransportBuffer;
 use crate::line::{End, number, text};
 use crate::named_program::NamedProgram;
 use serde_json::Value;
@@ -27,6 +27,7 @@ enum Carried {
 /// What an audit found, as its line has it, and the words that it was asked with.
 #[derive(Clone, Copy)]
 struct Found<'a> {
+    program: Option<NamedProgram<'a>>,
     file: &'a str,
     slot: u64,
     pid: u64,
@@ -62,6 +63,7 @@ fn found_of<'a, R: Files + AllocGlobal>(rt: &R, end: &End<'a>, line: &Value) -> 
     let program = NamedProgram::of_audit(end);
     let pid = number(line, "pid");
     Found {
+        program,
         file: end.word(1),
         slot: match program {
             Some(program) => program.slot,
@@ -127,17 +129,9 @@ fn overflow<R: Files + AllocGlobal>(rt: &R, found: &Found<'_>) -> Result<String,
     let alloc = rt.alloc();
     let stream = stream_in_words(alloc, found)?;
     let place = place_in_words(alloc, found)?;
-    let crowd = crowd_in(
-        rt,
-        found.file,
-        found.pid,
-        found.slot,
-        found.at,
-        leaving(found.carried),
-    );
-    match crowd {
+    match transport_buffer(rt, found).held_at(rt, found.at) {
         Some(bytes) if bytes > TB_BYTES => format!(in alloc;
-            "the transport buffer of {stream} overflows {place}: it holds {bytes} bytes, and {TB_BYTES} fit; packets of that PID stand too close together: \
+            "the transport buffer of {stream} overflows {place}: it holds {bytes} bytes, and {TB_BYTES} fit; its packets stand too close together: \
              {rate} leave it a second, so the multiplexer has to space them, or pad less and the program needs a slower rate",
             rate = leaving_in_words(found.carried)
         ),
@@ -146,6 +140,20 @@ fn overflow<R: Files + AllocGlobal>(rt: &R, found: &Found<'_>) -> Result<String,
              ahead, or the coder's buffer is larger than it states",
             buffer = main_buffer(found.carried)
         ),
+    }
+}
+
+/// The transport buffer of what was found; into that of the sections packets of the program's map come beside those of PID 0.
+fn transport_buffer<'a, R: Files + AllocGlobal>(rt: &R, found: &Found<'a>) -> TransportBuffer<'a> {
+    let map = match found.carried {
+        Carried::Sections => found.program.and_then(|program| program.map_pid(rt)),
+        Carried::Video | Carried::Audio => None,
+    };
+    TransportBuffer {
+        file: found.file,
+        slot: found.slot,
+        pids: [found.pid, map.map_or(found.pid, u64::from)],
+        leaving: leaving(found.carried),
     }
 }
 

@@ -7,12 +7,13 @@ use arrayvec::ArrayVec;
 use job_report::Form;
 use job_report::limits::{PROBE_SLOT, START_DEFAULT};
 use psi_tables::{STREAMS_MOST, Stream};
-use shelf_io::Reading;
+use shelf_io::{Reading, read_file};
 use shelf_kinds::FileShelf;
 use std::alloc::Global;
 use std::rt::Files;
+use stream_audit::AUDITED_BYTES_MOST;
 use toml::{Table, Value};
-use ts_demux::read_map;
+use ts_demux::{find_map, read_map};
 
 /// `stream_type` of the video that is carried (ISO/IEC 13818-2).
 const VIDEO: u8 = 0x02;
@@ -101,6 +102,14 @@ impl<'a> NamedProgram<'a> {
             }
         }
         Some(pids)
+    }
+
+    /// The PID of its map; none where its file can't be read or tells none.
+    pub(crate) fn map_pid<R: Files + AllocGlobal>(&self, rt: &R) -> Option<u16> {
+        let mut shelf = FileShelf::new(rt);
+        let most = AUDITED_BYTES_MOST as u64;
+        let file = read_file(rt.alloc(), &mut shelf, self.file, most).ok()?;
+        Some(find_map(file.as_slice(), self.number).ok()?.pid)
     }
 
     /// The stream ids of a program stream's audio streams that aren't carried; none where memory is wanting.
