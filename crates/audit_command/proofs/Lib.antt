@@ -1,4 +1,4 @@
-mod Auditable
+pub mod Auditable
 mod AuditEnds
 mod OneStatus
 mod LastTimes

@@ -101,7 +101,7 @@ whole-taken law (p ∷ []) whole = ap (λ (dropped : Bool). let xs : List PesUni
 whole-taken law (p ∷ q ∷ ps) whole = ap (λ (rest : List PesUnit). p ∷ rest) (whole-taken law (q ∷ ps) whole.1)
 
 -- those of a stream stand where those of the file stand that are taken
-placed-same : WhereverItStands → (out from : AudioStream) → AreSound false from.units → AreTaken out from → placed_from 0 (taken_of out) ≡ placed_from 0 (taken_of from)
+pub placed-same : WhereverItStands → (out from : AudioStream) → AreSound false from.units → AreTaken out from → placed_from 0 (taken_of out) ≡ placed_from 0 (taken_of from)
 placed-same law out from sound same =
     let whole : AreWhole (bytes_of_packets out.units) = subst AreWhole (sym same) (taken-whole law from.units sound) in
     ap (placed_from 0) (whole-taken law out.units whole) ∙ placed-by 0 out.units ∙ ap (placed_bytes 0) same ∙ sym (placed-by 0 (taken_of from))

@@ -42,7 +42,7 @@ use Rattle.time_laws.specs.Carried.{CarriesTable, CarriesTimes}
 use Rattle.audit_laws.specs.Written.{IsFoundClean}
 use Rattle.audit_laws.proofs.Axis.{HasAxis}
 use Rattle.audit_laws.proofs.Parsed.{IsTakenAt}
-use Rattle.audit_laws.proofs.Program.{ProgramLaws, found-clean}
+use Rattle.audit_laws.proofs.Program.{IsProgramIn, ProgramLaws, found-clean}
 
 same-packets : (xs ys : List PacketRecord) → map Some xs ≡ map Some ys → xs ≡ ys
 same-packets [] [] same = refl
@@ -96,33 +96,43 @@ module _ (job : Job) (programs : List Program) (table : Table) (choice : List �
       (flat_map (λ items. items) (video_items (at program row there).source.units (at program row there).own (choice_from table.programs program choice)))
       (video-pieces job programs table choice versions slots made program row there (at program row there))))
 
--- A program of a job's stream has at most what an audit may find.
-pub written-clean : ProgramLaws → (job : Job) (programs : List Program) (table : Table) (choice : List ℕ) (slots : SlotList) (of : IsTableOf job programs table)
+-- A program of a job's stream, with its packets and its row of the table, as an audit takes it.
+pub record IsWrittenProgram (stream : List ℕ) (table : Table) (choice : List ℕ) (place number : ℕ) : Type 0 where
+  pub list : List PacketRecord
+  pub row : ProgramRow
+  pub found : slice_get table.programs place ≡ Some row
+  pub is : IsProgramIn stream list table.slot place number row (choice_from table.programs place choice)
+
+-- Each program of a job's stream is one.
+pub written-program : (job : Job) (programs : List Program) (table : Table) (choice : List ℕ) (slots : SlotList) (of : IsTableOf job programs table)
     (is : IsReady job programs table choice slots of) → HaveOneList → (stream numbers : List ℕ) → IsStreamIn job programs choice slots stream → length stream ≡ 188 * slots.slots
     → ((pid : ℕ) → pid ≢ 8191 → AreCounted pid (output_packets (layout_of job programs) job.slot (pieces_of (stream_items programs of.versions choice)) slots.rows))
     → CarriesTable table choice numbers stream
     → ((place number : ℕ) (row : ProgramRow) → slice_get numbers place ≡ Some number → slice_get table.programs place ≡ Some row → HasAxis stream number row)
-    → (place number : ℕ) → slice_get numbers place ≡ Some number → IsTakenAt stream place number → length stream ≤ 536870912 → IsFoundClean stream table.slot number
-written-clean laws job programs table choice slots of is one_list stream numbers in_slots size counted carried axes place number there taken short =
-    found-clean laws stream list table.slot place number row (choice_from table.programs place choice)
-    (record {
-      read = read;
-      counted = counted;
-      few = omega (arith, within, is.made.valid.few_programs);
-      short = short;
-      times = subst (λ (l : List PacketRecord). CarriesTimes stream l table.slot place number row (choice_from table.programs place choice))
-          (same-packets carried.stream list (sym carried.read ∙ read)) (carried.each place number row there found);
-      taken = taken;
-      is_clean = video-clean job programs table choice of.versions slots is.made place row found;
-      data_behind = video-leaves job programs table choice of.versions slots is.made place row found;
-      sections = λ fault has.
-          clean.sections place within fault (subst (λ (l : List PacketRecord). IsFault table.slot System (section_arrivals (map_pid place) l) [] fault) (sym same) has);
-      rise = valid.dues;
-      axis = axes place number row there found;
-      few_audios = valid.few_audios;
-      audios_clean = λ audio packets stands.
-          subst (λ (l : List PacketRecord). IsCleanOn table.slot (video_pid place + 1 + audio) (audio_of packets) l) same (clean.audios place audio row packets found stands);
-    })
+    → (place number : ℕ) → slice_get numbers place ≡ Some number → IsTakenAt stream place number → length stream ≤ 536870912 → IsWrittenProgram stream table choice place number
+written-program job programs table choice slots of is one_list stream numbers in_slots size counted carried axes place number there taken short = record {
+  list = list;
+  row = row;
+  found = found;
+  is = record {
+    read = read;
+    counted = counted;
+    few = omega (arith, within, is.made.valid.few_programs);
+    short = short;
+    times = subst (λ (l : List PacketRecord). CarriesTimes stream l table.slot place number row (choice_from table.programs place choice))
+        (same-packets carried.stream list (sym carried.read ∙ read)) (carried.each place number row there found);
+    taken = taken;
+    is_clean = video-clean job programs table choice of.versions slots is.made place row found;
+    data_behind = video-leaves job programs table choice of.versions slots is.made place row found;
+    sections = λ fault has.
+        clean.sections place within fault (subst (λ (l : List PacketRecord). IsFault table.slot System (section_arrivals (map_pid place) l) [] fault) (sym same) has);
+    rise = valid.dues;
+    axis = axes place number row there found;
+    few_audios = valid.few_audios;
+    audios_clean = λ audio packets stands.
+        subst (λ (l : List PacketRecord). IsCleanOn table.slot (video_pid place + 1 + audio) (audio_of packets) l) same (clean.audios place audio row packets found stands);
+  };
+}
   where
     list : List PacketRecord
     list = output_packets (layout_of job programs) job.slot (pieces_of (stream_items programs of.versions choice)) slots.rows
@@ -147,3 +157,14 @@ written-clean laws job programs table choice slots of is one_list stream numbers
 
     valid : IsValidProgram table.slot row
     valid = All-get_or (IsValidProgram table.slot) table.programs place no_row within is.made.valid.programs
+
+-- A program of a job's stream has at most what an audit may find.
+pub written-clean : ProgramLaws → (job : Job) (programs : List Program) (table : Table) (choice : List ℕ) (slots : SlotList) (of : IsTableOf job programs table)
+    (is : IsReady job programs table choice slots of) → HaveOneList → (stream numbers : List ℕ) → IsStreamIn job programs choice slots stream → length stream ≡ 188 * slots.slots
+    → ((pid : ℕ) → pid ≢ 8191 → AreCounted pid (output_packets (layout_of job programs) job.slot (pieces_of (stream_items programs of.versions choice)) slots.rows))
+    → CarriesTable table choice numbers stream
+    → ((place number : ℕ) (row : ProgramRow) → slice_get numbers place ≡ Some number → slice_get table.programs place ≡ Some row → HasAxis stream number row)
+    → (place number : ℕ) → slice_get numbers place ≡ Some number → IsTakenAt stream place number → length stream ≤ 536870912 → IsFoundClean stream table.slot number
+written-clean laws job programs table choice slots of is one_list stream numbers in_slots size counted carried axes place number there taken short =
+    let written = written-program job programs table choice slots of is one_list stream numbers in_slots size counted carried axes place number there taken short in
+    found-clean laws stream written.list table.slot place number written.row (choice_from table.programs place choice) written.is

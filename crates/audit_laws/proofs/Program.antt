@@ -122,7 +122,7 @@ module _ (laws : ProgramLaws) (file : List ℕ) (list : List PacketRecord) (slot
   abbrev pictures : List DecodedPicture
   pictures = is.times.first ∷ is.times.later
 
-  abbrev ats : List ℕ
+  abbrev pub ats : List ℕ
   ats = map (λ (picture : DecodedPicture). picture.at) (is.times.first ∷ is.times.later)
 
   taken-same : is.taken.demuxed ≡ is.times.demuxed
@@ -154,7 +154,7 @@ module _ (laws : ProgramLaws) (file : List ℕ) (list : List PacketRecord) (slot
   off-found : first_off slot is.times.base (places_on file is.times.demuxed.map.pcr_pid) ≡ None
   off-found = laws.off_is file list slot is.times.demuxed.map.pcr_pid is.times.base is.read pcr-counted is.times.clock
 
-  abbrev clock : FoundClock
+  abbrev pub clock : FoundClock
   clock = record { zero = is.times.base; off = None }
 
   -- ---- nothing is refused
@@ -177,7 +177,7 @@ module _ (laws : ProgramLaws) (file : List ℕ) (list : List PacketRecord) (slot
   map-is : IsMapPid file number (map_pid place)
   map-is = record { packet = is.times.map_pid_is.packet; index = is.times.map_pid_is.index; takes = is.times.map_pid_is.taken }
 
-  read-of : IsProgramRead file number slot is.times.demuxed (map_pid place) clock
+  pub read-of : IsProgramRead file number slot is.times.demuxed (map_pid place) clock
   read-of = record {
     tables = record {
       file_fits = is.short;
@@ -281,7 +281,7 @@ module _ (laws : ProgramLaws) (file : List ℕ) (list : List PacketRecord) (slot
 
   -- ---- what is found
 
-  found-of : (kept : KeptUnits) (found : Option Finding) → AreKeptOf is.times.base is.times.demuxed.video ats is.times.first.seq.vbv kept → IsAudited file number slot kept found
+  pub found-of : (kept : KeptUnits) (found : Option Finding) → AreKeptOf is.times.base is.times.demuxed.video ats is.times.first.seq.vbv kept → IsAudited file number slot kept found
       → IsFullAtMost found
   found-of kept found kept_are audited = by_demuxed audited.demuxed audited.map_pid audited.clock audited.streams same map-same clock-same off-none audited.streams_are audited.first
     where

@@ -6,5 +6,5 @@ mod MapPids
 mod ReadyPrograms
 mod SentAudios
 pub mod SentStreams
-mod SentUnits
+pub mod SentUnits
 mod SentVideos

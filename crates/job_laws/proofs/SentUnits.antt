@@ -48,10 +48,10 @@ UnitsCutAgain =
 
 -- ---- the version that a choice names
 
-no_version : UnitVersion
+abbrev pub no_version : UnitVersion
 no_version = record { bytes = []; distortion = 0 }
 
-chosen-is : (versions : List UnitVersion) (k : ℕ) → k < length versions → (get_or versions k no_version).bytes ≡ chosen_bytes versions k
+pub chosen-is : (versions : List UnitVersion) (k : ℕ) → k < length versions → (get_or versions k no_version).bytes ≡ chosen_bytes versions k
 chosen-is versions k within = sym (ap (λ (found : Option UnitVersion). option_map_or (λ (version : UnitVersion). version.bytes) found []) (slice_get-get_or versions k no_version within))
 
 -- the same bytes, with the same picture

@@ -89,7 +89,7 @@ prefix-run rest = ap zeros_before (ap (λ (x : List ℕ). x ++ rest) prefix-zero
 -- ---- bits up to a whole byte
 
 -- zero bits to a whole byte are zeros, and whole bytes follow
-padding : (refusal : Refusal) (number : ℕ) (bits rest : List ℕ) → (zero_bits refusal).Spells number bits rest
+pub padding : (refusal : Refusal) (number : ℕ) (bits rest : List ℕ) → (zero_bits refusal).Spells number bits rest
     → (p : ℕ) × (bits ≡ replicate p 0 ++ rest) × (length rest % 8 ≡ 0) × (p ≡ length bits % 8)
 padding refusal number bits rest (code, (fits, is), passing, split) =
     let none : number ≡ 0 = eqb-true number 0 (and_parts (nat_eq number 0) true passing).0 in
@@ -205,18 +205,14 @@ extension_clear identifiers loaded bits rest display (id, m1, (code, (fits, is),
         omega (arith, size, whole, w, some, sizes)
     not_first whole begins eight size front after e' w (inr le) = absurd (none_here front after begins e' (omega (arith, le)))
 
--- start codes of extensions and user data, and no identifier but that of sequence_display_extension()
-pub record AreOthers (start_codes identifiers : ℕ → Bool) : Type 0 where
-  pub codes : (byte : ℕ) → start_codes byte ≡ true → (byte ≢ PICTURE) × (byte ≢ GROUP)
-  pub display : (id : ℕ) → identifiers id ≡ true → id ≡ SEQUENCE_DISPLAY
-
-module _ (start_codes identifiers : ℕ → Bool) (others : AreOthers start_codes identifiers) where
-  content_clear : (byte : ℕ) (loaded : Loaded) (user : Option (List ℕ × Unit {0})) (m1 m2 m3 : List ℕ) → (when (byte == EXTENSION) (extension identifiers) no_matrix).Spells loaded m1 m2
+-- what follows a start code of an extension or of user data
+module _ (identifiers : ℕ → Bool) (display : (id : ℕ) → identifiers id ≡ true → id ≡ SEQUENCE_DISPLAY) where
+  pub content_clear : (byte : ℕ) (loaded : Loaded) (user : Option (List ℕ × Unit {0})) (m1 m2 m3 : List ℕ) → (when (byte == EXTENSION) (extension identifiers) no_matrix).Spells loaded m1 m2
       → (optional (byte == USER_DATA) unread).Spells user m2 m3 → length m1 % 8 ≡ 0 → IsClear m1 m3 × (length m3 % 8 ≡ 0)
   content_clear byte loaded user m1 m2 m3 s t whole = elim (cases_Bool (byte == EXTENSION)) [
     | inl is ↦
         let same : byte ≡ EXTENSION = eqb-true byte EXTENSION is in
-        let ext = extension_clear identifiers loaded m1 m2 others.display (when_some (byte == EXTENSION) is s) whole in
+        let ext = extension_clear identifiers loaded m1 m2 display (when_some (byte == EXTENSION) is s) whole in
         let m23 : m2 ≡ m3 = optional_none (byte == USER_DATA) unread user m2 m3 (ap (λ (n : ℕ). n == USER_DATA) same) t in
         (subst (IsClear m1) m23 ext.0, subst (λ (x : List ℕ). length x % 8 ≡ 0) m23 ext.1)
     | inr other ↦
@@ -236,13 +232,19 @@ module _ (start_codes identifiers : ℕ → Bool) (others : AreOthers start_code
       when_some true e s = s
       when_some false e s = absurd (let e' : false ≡ true = e in cc)
 
+-- start codes of extensions and user data, and no identifier but that of sequence_display_extension()
+pub record AreOthers (start_codes identifiers : ℕ → Bool) : Type 0 where
+  pub codes : (byte : ℕ) → start_codes byte ≡ true → (byte ≢ PICTURE) × (byte ≢ GROUP)
+  pub display : (id : ℕ) → identifiers id ≡ true → id ≡ SEQUENCE_DISPLAY
+
+module _ (start_codes identifiers : ℕ → Bool) (others : AreOthers start_codes identifiers) where
   list_leads : (before values : List Loaded) (bits middle rest : List ℕ) → SpellsList (extension_or_user_data start_codes identifiers) before values (tt {0}) bits middle
       → length bits % 8 ≡ 0 → (length middle % 8 ≡ 0 → Leads middle rest) → Leads bits rest
   list_leads before [] bits middle rest (inl (c, (byte, m1, s1, (loaded, m2, s2, (user, m3, s3, (e, f)))))) whole later = absurd (let e' : last (tt {0}) ≡ more loaded = e in cc)
   list_leads before [] bits middle rest (inr (c, (e, f))) whole later = subst (λ (x : List ℕ). Leads x rest) (sym f) (later (subst (λ (x : List ℕ). length x % 8 ≡ 0) f whole))
   list_leads before (v ∷ vs) bits middle rest (next, inl (c, (byte, m1, s1, (loaded, m2, s2, (user, m3, s3, (e, f))))), t) whole later =
       let (code, zeros, aligned, is) = first-code BadHeader start_codes byte bits m1 s1 whole in
-      let (clear, aligned') = content_clear byte loaded user m1 m2 m3 s2 s3 aligned in
+      let (clear, aligned') = content_clear identifiers others.display byte loaded user m1 m2 m3 s2 s3 aligned in
       let kind = others.codes byte is in
       leads-behind BadHeader start_codes byte bits m1 next rest s1 whole kind.0 kind.1 (subst (IsClear m1) f clear)
       (list_leads (before ++ v ∷ []) vs next middle rest t (subst (λ (x : List ℕ). length x % 8 ≡ 0) f aligned') later)

@@ -63,7 +63,7 @@ first_one file pids a b first other = by_order (cases_order first.packet other.p
     by_order (inr (inr before)) = absurd (first.first other.packet b before other.stands)
 
 -- what isn't want of memory
-abbrev Known : DemuxFault → Type 0
+abbrev pub Known : DemuxFault → Type 0
 Known fault = fault ≢ demux_faults.OutOfMemory
 
 places_one : (file : List ℕ) (pid : ℕ) (a b : DemuxFault) → Known a → Known b → IsPlacesFault file pid a → IsPlacesFault file pid b → a ≡ b
@@ -71,7 +71,7 @@ places_one file pid a b some known (inl wanted) other = absurd (some wanted)
 places_one file pid a b some known (inr first) (inl wanted) = absurd (known wanted)
 places_one file pid a b some known (inr first) (inr other) = first_one file (pid ∷ []) a b first other
 
-sound_or_places : (file : List ℕ) (pid : ℕ) (fault : DemuxFault) → Known fault → AreStreamsSound file (pid ∷ []) → IsPlacesFault file pid fault → ⊥
+pub sound_or_places : (file : List ℕ) (pid : ℕ) (fault : DemuxFault) → Known fault → AreStreamsSound file (pid ∷ []) → IsPlacesFault file pid fault → ⊥
 sound_or_places file pid fault some sound (inl wanted) = some wanted
 sound_or_places file pid fault some sound (inr first) = sound first.packet fault first.stands
 
@@ -82,7 +82,7 @@ system_one file map_pid a b some known (inr first) (inl other) = absurd (sound_o
 system_one file map_pid a b some known (inr first) (inr other) = places_one file map_pid a b some known first.1 other.1
 
 -- a stop that isn't want of memory is of such a fault
-known_of : (stop : AuditStop) (fault : DemuxFault) → stop ≢ stops.OutOfMemory → stop ≡ stop_of_demux fault → Known fault
+pub known_of : (stop : AuditStop) (fault : DemuxFault) → stop ≢ stops.OutOfMemory → stop ≡ stop_of_demux fault → Known fault
 known_of stop fault some is wanted = some (is ∙ ap stop_of_demux wanted)
 
 -- ---- the map's PID and the clock

@@ -71,7 +71,7 @@ joined-by (p ∷ ps) = ap (λ (rest : List ℕ). pes_payload_of p ++ rest) (join
 abbrev pub AreTaken : (out from : AudioStream) → Type 0
 AreTaken out from = bytes_of_packets out.units ≡ bytes_of_packets (taken_of from)
 
-placed-same : WhereverItStands → (out from : AudioStream) → AreSound false from.units → AreTaken out from → placed_from 0 (taken_of out) ≡ placed_from 0 (taken_of from)
+pub placed-same : WhereverItStands → (out from : AudioStream) → AreSound false from.units → AreTaken out from → placed_from 0 (taken_of out) ≡ placed_from 0 (taken_of from)
 placed-same law out from sound same =
     let whole : AreWhole (bytes_of_packets out.units) = subst AreWhole (sym same) (taken-whole law from.units sound) in
     ap (placed_from 0) (whole-taken law out.units whole) ∙ placed-by 0 out.units ∙ ap (placed_bytes 0) same ∙ sym (placed-by 0 (taken_of from))

@@ -106,12 +106,12 @@ begins-alike Frame coding = refl
 begins-alike FirstField coding = refl
 begins-alike SecondField coding = refl
 
-shown-alike : (role : Role) (seq : SeqState) (coding : PicCoding) → shown_as role seq (without_delay coding) ≡ shown_as role seq coding
+pub shown-alike : (role : Role) (seq : SeqState) (coding : PicCoding) → shown_as role seq (without_delay coding) ≡ shown_as role seq coding
 shown-alike Frame seq coding = refl
 shown-alike FirstField seq coding = refl
 shown-alike SecondField seq coding = refl
 
-reference-alike : (earlier : List TimedPicture) → reference_shown (map coded_out earlier) ≡ reference_shown (map coded_as earlier)
+pub reference-alike : (earlier : List TimedPicture) → reference_shown (map coded_out earlier) ≡ reference_shown (map coded_as earlier)
 reference-alike [] = refl
 reference-alike (p ∷ ps) = by-test (begins_reference p.role p.coding) refl (reference-alike ps)
   where
@@ -124,7 +124,7 @@ reference-alike (p ∷ ps) = by-test (begins_reference p.role p.coding) refl (re
         let sent : begins_reference p.role (without_delay p.coding) ≡ false = begins-alike p.role p.coding ∙ is in
         rw (is, sent) rest
 
-before-alike : (role : Role) (earlier : List TimedPicture) → reference_shown (before_frame role (map coded_out earlier)) ≡ reference_shown (before_frame role (map coded_as earlier))
+pub before-alike : (role : Role) (earlier : List TimedPicture) → reference_shown (before_frame role (map coded_out earlier)) ≡ reference_shown (before_frame role (map coded_as earlier))
 before-alike Frame earlier = reference-alike earlier
 before-alike FirstField earlier = reference-alike earlier
 before-alike SecondField [] = refl

@@ -1,0 +1,15 @@
+pub mod GroupHeaders
+pub mod UnitPictures
+pub mod Again
+pub mod Scheduled
+pub mod JoinedPictures
+pub mod VideoAgain
+pub mod Times
+pub mod ReadAgain
+pub mod AudioAgain
+pub mod ProgramAgain
+pub mod OneAlone
+pub mod JobAlone
+pub mod Stops
+pub mod Passes
+pub mod Passed
