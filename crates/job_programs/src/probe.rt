@@ -3,6 +3,7 @@ ghost use Rattle.job_report.specs.declared.limits.TheConstants.{START_MOST};
 ghost use Rattle.shelf_io.specs.Asked.{AsksUpTo};
 ghost use Rattle.version_table.specs.declared.limits.TheConstants.{SLOT_MOST};
 ghost use Rattle.program_reader.specs.declared.limits.TheConstants.{FILE_BYTES_MOST};
+ghost use Rattle.program_reader.specs.Sizes.{AreProgramSizes};
 ghost use Rattle.job_programs.specs.Told.{CountReads, EndsFailed, EndsMissing, HasProbeCause, IsProbedOn, ReadsEnd};
 
 use crate::limits::PROBED_AUDIO_PACKETS_MOST;
@@ -11,13 +12,14 @@ use crate::share::has_few_packets;
 use crate::source_fault::{ProgramsFault, SourceFault};
 use job_report::Form;
 use job_report::limits::{COARSER_DEFAULT, DRIFT_DEFAULT, WEIGHT_DEFAULT};
-use program_reader::{Program, SourceKind};
+use program_reader::{SizedProgram, SourceKind};
 use shelf_io::Shelf;
 use std::alloc::Global;
 
 /// The program of this number in a transport stream, without the audio streams of the PIDs in `drop`, its earliest time due at `start`
-/// (in ticks), for a stream of such slots, as the one program of a job whose table's text has room for it; or why it isn't read, in
-/// the words of the first program of a job. No file is changed.
+/// (in ticks), for a stream of such slots, as the one program of a job whose table's text has room for it, with the sizes of all versions
+/// of its units at the ratios of a job that says nothing else, each unit being read once for both; or why it isn't read, in the words of the
+/// first program of a job. No file is changed.
 pub fn read_one<K: Shelf>(
     alloc: Global,
     shelf: &mut K,
@@ -26,10 +28,11 @@ pub fn read_one<K: Shelf>(
     drop: &[u16],
     start: u64,
     slot: u32,
-) -> Result<Program, ProgramsFault>
+) -> Result<SizedProgram, ProgramsFault>
     requires start { start ≤ START_MOST }
     requires slot { slot ≤ SLOT_MOST }
-    ensures program { IfOk result (IsProbedOn (K.files shelf.old) name.now slot start number drop.now) }
+    ensures program { IfOk result (λ read. IsProbedOn (K.files shelf.old) name.now slot start number drop.now read.program) }
+    ensures sizes { IfOk result (λ read. AreProgramSizes read.program COARSER_DEFAULT read.sizes) }
     ensures cause { IfErr result (HasProbeCause (K.files shelf.old) name.now slot start number drop.now (K.counts shelf.old) (K.counts shelf.new) (K.since_fault shelf.new)) }
 
     ensures files { K.files shelf.new ≡ K.files shelf.old }
@@ -52,7 +55,7 @@ pub fn read_one<K: Shelf>(
             units: 0,
             weight: WEIGHT_DEFAULT,
             drift: DRIFT_DEFAULT,
-            is_sized: false,
+            is_sized: true,
             coarser: &COARSER_DEFAULT,
         },
     )?;
@@ -63,5 +66,8 @@ pub fn read_one<K: Shelf>(
             at: 0,
         }));
     }
-    Ok(next.program)
+    Ok(SizedProgram {
+        program: next.program,
+        sizes: next.sizes,
+    })
 }

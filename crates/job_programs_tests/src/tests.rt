@@ -5,7 +5,7 @@ ghost use Rattle.picture_grammar.specs.Picture.{IsState, MayPrecede};
 use job_programs::{
     ProgramsFault, SizedPrograms, SourceFault, read_one, read_programs, read_sized_programs,
 };
-use job_report::limits::{PROBE_SLOT, START_DEFAULT};
+use job_report::limits::{COARSER_DEFAULT, PROBE_SLOT, START_DEFAULT};
 use job_report::read_job;
 use picture_reader::check_picture;
 use program_maker::make_program;
@@ -191,9 +191,9 @@ fn a_probed_file(rt: HostRuntime) -> Result<(), Fail> {
     let alloc = rt.alloc();
     let mut shelf = shelf_of(alloc, Vec::new(alloc))?;
     match read_one(alloc, &mut shelf, "a.ts", 1, &[], START_DEFAULT, PROBE_SLOT) {
-        Ok(program) => {
-            assert_eq!(rt; program.units.len(), 12);
-            match program.audios.as_slice() {
+        Ok(read) => {
+            assert_eq!(rt; read.program.units.len(), 12);
+            match read.program.audios.as_slice() {
                 [audio] => {
                     assert_eq!(rt; audio.pieces.len(), 80);
                 }
@@ -201,6 +201,13 @@ fn a_probed_file(rt: HostRuntime) -> Result<(), Fail> {
                     assert!(rt; false);
                 }
             }
+            let are = are_sizes_of(
+                alloc,
+                &read.program,
+                read.sizes.as_slice(),
+                &COARSER_DEFAULT,
+            );
+            assert_eq!(rt; are, Ok(true));
         }
         Err(fault) => {
             assert_eq!(rt; fault, ProgramsFault::OutOfMemory);

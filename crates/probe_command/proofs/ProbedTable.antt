@@ -24,7 +24,6 @@ use Rattle.version_table.specs.declared.table.Table.{Table}
 use Rattle.version_table.specs.Table.{IsValidProgram, IsValidTable, greatest_distortion}
 use Rattle.version_table.specs.Text.{IsTextTable}
 use Rattle.version_table.proofs.Sizes.{spelling_size}
-use Rattle.probe_command.specs.ProbeCommand.{IsProbedTable}
 
 -- the packets of a row's audio streams are as many as those of its program
 row_packets : (audios : List AudioSource) → length (flat_map (λ (packets : List AudioPacket). packets) (map audio_row audios)) ≡ audio_packets audios
@@ -47,11 +46,7 @@ RowsArePlaced = (slot start : ℕ) (form : Form) (number weight : ℕ) (content 
 abbrev pub table_of_row : ProgramRow → Table
 table_of_row row = record { slot = PROBE_SLOT; nodes = NODES_DEFAULT; evaluations = EVALUATIONS_DEFAULT; programs = row ∷ [] }
 
--- is its table
-pub is_probed_table : (program : Program) (row : ProgramRow) → IsRowOf program COARSER_DEFAULT WEIGHT_DEFAULT DRIFT_DEFAULT row → IsProbedTable program (table_of_row row)
-is_probed_table program row is = record { slot = refl; nodes = refl; evaluations = refl; row = row; is_row = is; alone = refl }
-
--- and a text may hold it
+-- a text may hold it
 row_is_text : RowsArePlaced → (number : ℕ) (content : List ℕ) (program : Program) (row : ProgramRow) → IsProbed PROBE_SLOT START_DEFAULT number [] content program
     → AreBytes program.video → IsRowOf program COARSER_DEFAULT WEIGHT_DEFAULT DRIFT_DEFAULT row → IsTextTable (table_of_row row)
 row_is_text law number content program row probed bytes is =

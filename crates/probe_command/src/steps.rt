@@ -2,7 +2,8 @@
 
 ghost use Rattle.std.specs.Prelude.{◌≡◌, ◌∷◌, ℕ, List, [], IfOk, IfSome};
 ghost use Rattle.job_programs.specs.Probe.{IsProbed};
-ghost use Rattle.job_report.specs.declared.limits.TheConstants.{PROBE_SLOT, START_DEFAULT};
+ghost use Rattle.job_report.specs.declared.limits.TheConstants.{COARSER_DEFAULT, PROBE_SLOT, START_DEFAULT};
+ghost use Rattle.program_reader.specs.Sizes.{AreProgramSizes};
 ghost use Rattle.version_table.specs.Text.{IsTextTable};
 ghost use Rattle.command_words.specs.Ended.{PerformsOn};
 ghost use Rattle.probe_command.specs.Private.Probed.{IsProbedText};
@@ -14,13 +15,12 @@ use command_words::{
 };
 use job_programs::{ProgramsFault, read_one};
 use job_report::limits::{
-    COARSER_DEFAULT, DRIFT_DEFAULT, EVALUATIONS_DEFAULT, NODES_DEFAULT, PROBE_SLOT, START_DEFAULT,
-    WEIGHT_DEFAULT,
+    DRIFT_DEFAULT, EVALUATIONS_DEFAULT, NODES_DEFAULT, PROBE_SLOT, START_DEFAULT, WEIGHT_DEFAULT,
 };
 use list_types::{ListOf, OutOfMemory};
-use program_reader::Program;
+use program_reader::SizedProgram;
 use program_table::laws::row_is_valid;
-use program_table::row_of_program;
+use program_table::row_of_sized_program;
 use shelf_io::{Fault, Shelf, write_file};
 use std::alloc::Global;
 use version_source::laws::{programs_can_be_sent, see_bytes};
@@ -39,7 +39,7 @@ pub fn probe_file<K: Shelf>(alloc: Global, words: &ProbeWords<'_>, shelf: &mut K
         START_DEFAULT,
         PROBE_SLOT,
     ) {
-        Ok(program) => write_probed(alloc, words, &program, shelf),
+        Ok(read) => write_probed(alloc, words, &read, shelf),
         Err(ProgramsFault::Refused(fault)) => end_refused_source(alloc, fault),
         Err(ProgramsFault::Failed(_)) => end_unread(alloc, words.file),
         Err(ProgramsFault::Missing(_)) => end_missing(alloc, words.file),
@@ -51,13 +51,14 @@ pub fn probe_file<K: Shelf>(alloc: Global, words: &ProbeWords<'_>, shelf: &mut K
 fn write_probed<K: Shelf>(
     alloc: Global,
     words: &ProbeWords<'_>,
-    program: &Program,
+    read: &SizedProgram,
     shelf: &mut K,
 ) -> Option<Ended>
-    requires { HoldsProbed (K.files shelf.now) words.now.file.now words.now.program program.now }
+    requires probed { HoldsProbed (K.files shelf.now) words.now.file.now words.now.program read.now.program }
+    requires sizes { AreProgramSizes read.now.program COARSER_DEFAULT read.now.sizes }
     ensures { PerformsOn K.files K.counts K.asked K.since_fault shelf.old shelf.new (probe_task_of words.now) result }
 {
-    let probed = prepare(alloc, program)?;
+    let probed = prepare(alloc, read)?;
     match write_file(shelf, words.table, probed.text.as_slice()) {
         Ok(()) => Some(probed.done),
         Err(Fault::Failed) => end_unwritten(alloc, words.table),
@@ -76,36 +77,38 @@ struct Probed {
 }
 
 /// Makes the table's text and the report of a program; none for want of memory.
-fn prepare(alloc: Global, program: &Program) -> Option<Probed>
-    requires { (number : ℕ) × (content : List ℕ) × IsProbed PROBE_SLOT START_DEFAULT number [] content program.now }
-    ensures { IfSome result (IsProbedText program.now) }
+fn prepare(alloc: Global, read: &SizedProgram) -> Option<Probed>
+    requires probed { (number : ℕ) × (content : List ℕ) × IsProbed PROBE_SLOT START_DEFAULT number [] content read.now.program }
+    requires sizes { AreProgramSizes read.now.program COARSER_DEFAULT read.now.sizes }
+    ensures { IfSome result (IsProbedText read.now.program) }
 {
-    let Ok(table) = table_of_probed(alloc, program) else {
+    let Ok(table) = table_of_probed(alloc, read) else {
         return None;
     };
     let Ok(text) = write_table(alloc, &table) else {
         return None;
     };
-    let Ok(report) = probe_report(alloc, program) else {
+    let Ok(report) = probe_report(alloc, &read.program) else {
         return None;
     };
     let done = end_with(alloc, Status::Ok, &report)?;
     Some(Probed { text, done })
 }
 
-/// The table of a program as it is probed. Fails only for want of memory.
-fn table_of_probed(alloc: Global, program: &Program) -> Result<Table, OutOfMemory>
-    requires { (number : ℕ) × (content : List ℕ) × IsProbed PROBE_SLOT START_DEFAULT number [] content program.now }
-    ensures table { IfOk result (IsProbedTable program.now) }
+/// The table of a program as it is probed, of the sizes that were told when it was read. Fails only for want of memory.
+fn table_of_probed(alloc: Global, read: &SizedProgram) -> Result<Table, OutOfMemory>
+    requires probed { (number : ℕ) × (content : List ℕ) × IsProbed PROBE_SLOT START_DEFAULT number [] content read.now.program }
+    requires sizes { AreProgramSizes read.now.program COARSER_DEFAULT read.now.sizes }
+    ensures table { IfOk result (IsProbedTable read.now.program) }
     ensures text { IfOk result IsTextTable }
 {
     programs_can_be_sent();
     row_is_valid();
-    see_bytes(program.video.as_slice());
-    let row = row_of_program(
+    see_bytes(read.program.video.as_slice());
+    let row = row_of_sized_program(
         alloc,
-        program,
-        &COARSER_DEFAULT,
+        &read.program,
+        read.sizes.as_slice(),
         WEIGHT_DEFAULT,
         DRIFT_DEFAULT,
     )?;

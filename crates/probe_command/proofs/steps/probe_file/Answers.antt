@@ -16,9 +16,9 @@ use Rattle.probe_command.specs.ProbeCommand.{HoldsProbed, probe_task_of}
 use Rattle.probe_command.proofs.ProbeSteps.{asks_file}
 use Rattle.probe_command.proofs.steps.probe_file.Goals as goal
 
-pub write_probed-requires : goal.write_probed-requires
-write_probed-requires g c =
-    subst (λ (told : Option Files). HoldsProbed told c.args.words.now.file.now c.args.words.now.program c.in-Ok.program) (sym c.in-Ok.ensures.files) c.in-Ok.ensures.program
+pub write_probed-requires-clause-probed : goal.write_probed-requires-clause-probed
+write_probed-requires-clause-probed g c =
+    subst (λ (told : Option Files). HoldsProbed told c.args.words.now.file.now c.args.words.now.program c.in-Ok.read.program) (sym c.in-Ok.ensures.files) c.in-Ok.ensures.program
 
 pub returns-in-Ok : goal.returns-in-Ok
 returns-in-Ok g c =

@@ -7,29 +7,29 @@ use Rattle.probe_command.specs.Report.{probe_report}
 use Rattle.probe_command.proofs.ProbeSteps.{has_probed, part_left, whole_written}
 use Rattle.probe_command.proofs.steps.write_probed.Goals as goal
 
-pub prepare-requires : goal.prepare-requires
-prepare-requires g c = (c.args.words.now.program, c.requires.content, c.requires.probed)
+pub prepare-requires-clause-probed : goal.prepare-requires-clause-probed
+prepare-requires-clause-probed g c = (c.args.words.now.program, c.requires.probed.content, c.requires.probed.probed)
 
 pub returns-in-Ok : goal.returns-in-Ok
 returns-in-Ok g c =
     let facts = shelf_facts g.K.Shelf.files g.K.Shelf.counts g.K.Shelf.asked g.K.Shelf.since_fault in
     let words = c.args.words.now in
-    let program = c.args.program.now in
+    let program = c.args.read.now.program in
     let probed = c.in_ok-probed.probed in
     let is = c.in_ok-probed.ensures in
     let old = g.K.Shelf.files c.args.shelf.now in
     written (probe_task_of words) (facts c.args.shelf.now) (facts c.write_file.new.shelf) probed.done (probe_report program) (probe_report program) is.ends refl
     (whole_written words.file.now words.program words.table.now old (g.K.Shelf.files c.write_file.new.shelf) program probed c.as_slice.result.now is c.as_slice.ensures
-    c.requires c.in-Ok.ensures.ok)
-    (program, is.made, has_probed old words.file.now words.program program probed is c.requires, refl) c.in-Ok.ensures.causes (never_failed tt) c.in-Ok.ensures.asked
+    c.requires.probed c.in-Ok.ensures.ok)
+    (program, is.made, has_probed old words.file.now words.program program probed is c.requires.probed, refl) c.in-Ok.ensures.causes (never_failed tt) c.in-Ok.ensures.asked
 
 pub returns-in-Err-Failed : goal.returns-in-Err-Failed
 returns-in-Err-Failed g c =
     let facts = shelf_facts g.K.Shelf.files g.K.Shelf.counts g.K.Shelf.asked g.K.Shelf.since_fault in
     let words = c.args.words.now in
     unwritten (probe_task_of words) (facts c.args.shelf.now) (facts c.write_file.new.shelf) c.end_unwritten.result words.table.now c.end_unwritten.ensures
-    (part_left words.file.now words.program words.table.now (g.K.Shelf.files c.args.shelf.now) (g.K.Shelf.files c.write_file.new.shelf) c.args.program.now
-    c.in_ok-probed.probed c.as_slice.result.now c.in_ok-probed.ensures c.as_slice.ensures c.requires c.in-Err-Failed.ensures.err)
+    (part_left words.file.now words.program words.table.now (g.K.Shelf.files c.args.shelf.now) (g.K.Shelf.files c.write_file.new.shelf) c.args.read.now.program
+    c.in_ok-probed.probed c.as_slice.result.now c.in_ok-probed.ensures c.as_slice.ensures c.requires.probed c.in-Err-Failed.ensures.err)
     refl c.in-Err-Failed.ensures.causes (ap Err c.in-Err-Failed.field-0-is) c.in-Err-Failed.ensures.fault_last c.in-Err-Failed.ensures.asked
 
 pub returns-in-Err-OutOfMemory : goal.returns-in-Err-OutOfMemory
@@ -37,6 +37,6 @@ returns-in-Err-OutOfMemory g c =
     let facts = shelf_facts g.K.Shelf.files g.K.Shelf.counts g.K.Shelf.asked g.K.Shelf.since_fault in
     let words = c.args.words.now in
     wants_within (probe_task_of words) (facts c.args.shelf.now) (facts c.write_file.new.shelf)
-    (part_left words.file.now words.program words.table.now (g.K.Shelf.files c.args.shelf.now) (g.K.Shelf.files c.write_file.new.shelf) c.args.program.now
-    c.in_ok-probed.probed c.as_slice.result.now c.in_ok-probed.ensures c.as_slice.ensures c.requires c.in-Err-OutOfMemory.ensures.err)
+    (part_left words.file.now words.program words.table.now (g.K.Shelf.files c.args.shelf.now) (g.K.Shelf.files c.write_file.new.shelf) c.args.read.now.program
+    c.in_ok-probed.probed c.as_slice.result.now c.in_ok-probed.ensures c.as_slice.ensures c.requires.probed c.in-Err-OutOfMemory.ensures.err)
     c.in-Err-OutOfMemory.ensures.causes (λ it. c.in-Err-OutOfMemory.ensures.fault_last) c.in-Err-OutOfMemory.ensures.asked
