@@ -248,7 +248,7 @@ pub record AreGrowing (table : Table) (most root : ℕ) (nodes : List Node) (lin
 branch_may : (table : Table) (most unit : ℕ) → 2 ≤ versions_of table unit → MayStand table most (Branch unit)
 branch_may table most unit many = record { many = many; version = tt; windows = omega arith; few = λ high. omega arith; buffers = omega (arith, mul-zero most) }
 
-each_grown : (table : Table) (most : ℕ) (nodes made : List Node) (i unit j : ℕ) → ((j : ℕ) → j < length nodes → MayStand table most (node_of nodes j))
+pub each_grown : (table : Table) (most : ℕ) (nodes made : List Node) (i unit j : ℕ) → ((j : ℕ) → j < length nodes → MayStand table most (node_of nodes j))
     → ((k : ℕ) → k < length made → MayStand table most (node_of made k)) → i < length nodes → 2 ≤ versions_of table unit → j < length nodes + length made
     → (j < length nodes) ⊎ (length nodes ≤ j) → MayStand table most (node_of (set nodes i (Branch unit) ++ made) j)
 each_grown table most nodes made i unit j old kids within many low (inl old_is) =
@@ -260,7 +260,7 @@ each_grown table most nodes made i unit j old kids within many low (inl old_is) 
 each_grown table most nodes made i unit j old kids within many low (inr new_is) =
     subst (λ (n : Node). MayStand table most n) (sym (new_node nodes made i j (j - length nodes) (Branch unit) (omega (arith, new_is)))) (kids (j - length nodes) (omega (arith, low, new_is)))
 
-settled_grown : (table : Table) (most root : ℕ) (nodes : List Node) (links new_links : List Link) (all before more : Leaves) (top : Reverse (ℕ × ℕ)) (old new i unit : ℕ)
+pub settled_grown : (table : Table) (most root : ℕ) (nodes : List Node) (links new_links : List Link) (all before more : Leaves) (top : Reverse (ℕ × ℕ)) (old new i unit : ℕ)
     (made : List Node) (grown : IsGrown table most root nodes links all old)
     → AreGrowing table most root nodes links new_links all before more top old new i unit made grown → i < length nodes → (j : ℕ) → j < length nodes + length made
     → IsLeaf (node_of (set nodes i (Branch unit) ++ made) j) → (j < length nodes) ⊎ (length nodes ≤ j)
@@ -287,7 +287,7 @@ settled_grown table most root nodes links new_links all before more top old new 
     (new_node nodes made i j k (Branch unit) place) (new_path (length nodes) unit (grown.path i) grown.path j k place)
     (are.children.settled k (omega (arith, low, new_is, are.children.count)))
 
-open_grown : (table : Table) (most root : ℕ) (nodes : List Node) (links new_links : List Link) (all before more : Leaves) (top : Reverse (ℕ × ℕ)) (old new i unit : ℕ)
+pub open_grown : (table : Table) (most root : ℕ) (nodes : List Node) (links new_links : List Link) (all before more : Leaves) (top : Reverse (ℕ × ℕ)) (old new i unit : ℕ)
     (made : List Node) (grown : IsGrown table most root nodes links all old)
     → AreGrowing table most root nodes links new_links all before more top old new i unit made grown → times_in i before ≡ 0 → (leaf : Reverse (ℕ × ℕ))
     → Contains before leaf ⊎ IsFromChild table root (grown.path i) unit (length nodes) (versions_of table unit) made leaf
@@ -305,7 +305,7 @@ open_grown table most root nodes links new_links all before more top old new i u
     (omega (arith, low, number, are.children.count, long_with nodes made i (Branch unit))) (new_node nodes made i j k (Branch unit) number)
     (new_path (length nodes) unit (grown.path i) grown.path j k number) (are.children.is k low) may at_least searched
 
-pub grown_branched : (table : Table) (most root : ℕ) (nodes : List Node) (links new_links : List Link) (all before more : Leaves) (top : Reverse (ℕ × ℕ)) (old new i unit : ℕ)
+unfoldable pub grown_branched : (table : Table) (most root : ℕ) (nodes : List Node) (links new_links : List Link) (all before more : Leaves) (top : Reverse (ℕ × ℕ)) (old new i unit : ℕ)
     (made : List Node) (grown : IsGrown table most root nodes links all old)
     → AreGrowing table most root nodes links new_links all before more top old new i unit made grown
     → IsGrown table most root (set nodes i (Branch unit) ++ made) new_links more new

@@ -20,4 +20,5 @@ pub mod Roots
 pub mod Splits
 pub mod Stepping
 pub mod Trying
+pub mod Valued
 pub mod WholeTrees

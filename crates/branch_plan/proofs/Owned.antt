@@ -35,13 +35,21 @@ units_are program (row ∷ rows) =
 pub owned_count : (table : Table) → length (owned_units table) ≡ length (units_of table)
 owned_count table = sym (length-map (owned_units table) (λ (owned : OwnedUnit). owned.unit)) ∙ ap (λ (us : List CodedUnit). length us) (units_are 0 table.programs)
 
-pub versions_are : (table : Table) (unit : ℕ) → unit < length (units_of table) → length (owned_at table unit).unit.versions.items ≡ versions_of table unit
-versions_are table unit within =
+pub owned_unit : (table : Table) (unit : ℕ) → unit < length (units_of table) → (owned_at table unit).unit ≡ get_or (units_of table) unit no_unit
+owned_unit table unit within =
     let at : get_or (map (λ (owned : OwnedUnit). owned.unit) (owned_units table)) unit no_unit ≡ (get_or (owned_units table) unit no_owned).unit =
     get_or-map (λ (owned : OwnedUnit). owned.unit) (owned_units table) unit no_owned no_unit (omega (arith, within, owned_count table)) in
-    let same : (get_or (owned_units table) unit no_owned).unit ≡ get_or (units_of table) unit no_unit =
-    sym at ∙ ap (λ (us : List CodedUnit). get_or us unit no_unit) (units_are 0 table.programs) in
-    ap (λ (u : CodedUnit). length u.versions.items) same
+    sym at ∙ ap (λ (us : List CodedUnit). get_or us unit no_unit) (units_are 0 table.programs)
+
+pub versions_are : (table : Table) (unit : ℕ) → unit < length (units_of table) → length (owned_at table unit).unit.versions.items ≡ versions_of table unit
+versions_are table unit within = ap (λ (u : CodedUnit). length u.versions.items) (owned_unit table unit within)
+
+-- its program's, beside the unit itself
+pub owned_by : (table : Table) (unit program vbv : ℕ) (own_unit : CodedUnit) → unit < length (units_of table) → owned_at table unit ≡ own program vbv own_unit
+    → owned_at table unit ≡ own program vbv (get_or (units_of table) unit no_unit)
+owned_by table unit program vbv own_unit within is =
+    let same : own_unit ≡ get_or (units_of table) unit no_unit = sym (ap (λ (o : OwnedUnit). o.unit) is) ∙ owned_unit table unit within in
+    is ∙ ap (own program vbv) same
 
 -- ---- all programs
 pub whole : (rows : List ProgramRow) → rows ≡ drop 0 rows

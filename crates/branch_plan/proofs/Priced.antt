@@ -19,6 +19,7 @@ use Rattle.certificate_checker.specs.Walk.{IsLeaf}
 use Rattle.branch_plan.specs.declared.limits.TheConstants.{BUFFER_WINDOWS_IN_ALL, FEW_WINDOWS_MOST, NODES_WITH_MANY_WINDOWS_MOST}
 use Rattle.branch_plan.specs.declared.known.Known.{Known}
 use Rattle.branch_plan.specs.declared.leaves.Leaf.{Leaf}
+use Rattle.branch_plan.specs.declared.values.Values.{Values}
 use Rattle.branch_plan.specs.Bound.{bound_where_few}
 use Rattle.branch_plan.specs.Private.Found.{AreSearchedIn, IsNoLower, IsReached}
 use Rattle.branch_plan.specs.Private.Known.{IsKnown}
@@ -73,12 +74,12 @@ seen_leaf_is table most fixed windows bound leaf known unit known_is searched is
     }
 
 -- ---- windows of time
-pub time_leaf_is : (table : Table) (most : ℕ) (fixed : List (Option ℕ)) (priced : ArrayVec PricedWindow) (below : Option ℕ) (known : Known) (unit : ℕ) → IsKnown table known
+pub time_leaf_is : (table : Table) (most : ℕ) (fixed : List (Option ℕ)) (priced : ArrayVec PricedWindow) (below : Option ℕ) (values : Values) (known : Known) (unit : ℕ) → IsKnown table known
     → AreSearched priced.items → length priced.items ≤ WINDOWS_MOST → (NODES_WITH_MANY_WINDOWS_MOST < most → length priced.items ≤ FEW_WINDOWS_MOST) → IsFreeUnit table fixed unit
     → MatchOption below (known.distortion ≤ bound_of_value (value_of_windows table fixed priced.items))
     (λ b. (b ≡ bound_of_value (value_of_windows table fixed priced.items)) × (bound_of_value (value_of_windows table fixed priced.items) < known.distortion))
-    → IsLeafOn table most fixed known.distortion (record { node = Window priced; bound = below; known = known })
-time_leaf_is table most fixed priced below known unit known_is searched short few free is =
+    → IsLeafOn table most fixed known.distortion (record { node = Window priced; bound = below; values = values; known = known })
+time_leaf_is table most fixed priced below values known unit known_is searched short few free is =
     let bound = bound_of_value (value_of_windows table fixed priced.items) in
     let node = Window priced in
     let may : MayBranch table fixed node bound = record { bound_is = refl; has = tt; unit = unit; free = free } in

@@ -78,7 +78,7 @@ fixed_costs slot windows (owned ∷ units) (entry ∷ fixed) (suc u) k free with
 abbrev has_left : OwnedUnit × Option ℕ → Bool
 has_left (owned, entry) = nat_lt 0 (length (versions_left owned entry))
 
-fixed_left : (units : List OwnedUnit) (fixed : List (Option ℕ)) (u k : ℕ) → list_all has_left (zip units fixed) ≡ true → list_all has_left (zip units (fix u k fixed)) ≡ true
+pub fixed_left : (units : List OwnedUnit) (fixed : List (Option ℕ)) (u k : ℕ) → list_all has_left (zip units fixed) ≡ true → list_all has_left (zip units (fix u k fixed)) ≡ true
 fixed_left [] fixed u k all = refl
 fixed_left (owned ∷ units) [] u k all = refl
 fixed_left (owned ∷ units) (entry ∷ fixed) zero k all =

@@ -11,6 +11,7 @@ use Rattle.version_table.specs.Table.{IsValidTable, units_of}
 use Rattle.dual_bounds.specs.Bounds.{bound_of_value}
 use Rattle.dual_bounds.specs.Fixed.{FixesVersions}
 use Rattle.dual_bounds.specs.Values.{value_of_windows}
+use Rattle.buffer_windows.specs.declared.windows.BufferWindow.{BufferWindow as SeeingWindow}
 use Rattle.bound_certificate.specs.declared.cert.Node.{Node}
 use Rattle.bound_certificate.specs.declared.cert.Node.TheVariants.{Branch, Dual, Run, Open, Window, BufferWindow}
 use Rattle.certificate_checker.specs.Faults.{IsSettled, LeavesOne}
@@ -24,6 +25,7 @@ use Rattle.branch_plan.specs.declared.children.Place.{Place}
 use Rattle.branch_plan.specs.declared.found.Found.{Found}
 use Rattle.branch_plan.specs.declared.known.Known.{Known}
 use Rattle.branch_plan.specs.declared.leaves.Leaf.{Leaf}
+use Rattle.branch_plan.specs.declared.values.Values.{Values}
 use Rattle.branch_plan.specs.Bound.{BranchesOnFitting, bound_where_few, unit_fits}
 use Rattle.branch_plan.specs.Plan.{BoundsAll}
 use Rattle.branch_plan.specs.Private.Found.{AreSearchedIn, EachBranchFits, IsNoLower, IsSound, ReachesBoth}
@@ -32,9 +34,11 @@ use Rattle.branch_plan.specs.Private.Forest.{leaf_at, no_tree, occurs}
 use Rattle.branch_plan.specs.Private.Growth.{IsOrdered, node_of}
 use Rattle.branch_plan.specs.Private.Known.{IsKnown}
 use Rattle.branch_plan.specs.Private.Leaves.{IsFreeUnit, IsLeafOn, IsSettledBy, MayStand}
+use Rattle.branch_plan.specs.Private.Valued.{AreValued, AreValuedBelow, IsValuedBy}
 use Rattle.branch_plan.proofs.Growing.{AreGrowing, grown_branched, grown_lower, one_more_child}
 use Rattle.branch_plan.proofs.Branched.{branch_node, long_with, old_node}
 use Rattle.branch_plan.proofs.Ending.{ends_best}
+use Rattle.branch_plan.proofs.Valued.{branched_valued, root_valued}
 use Rattle.branch_plan.proofs.Opens.{all_contained, contains_first, first_or_more}
 
 -- ---- the tree of one node
@@ -70,7 +74,7 @@ none_times : (j : ℕ) → times_in j [] ≡ 0
 unfolding times_in
 none_times j = refl
 
-root_grown : (table : Table) (most root old : ℕ) (leaf : Leaf) (leaves : List (Reverse (ℕ × ℕ))) → FixesVersions table (unfixed table)
+unfoldable root_grown : (table : Table) (most root old : ℕ) (leaf : Leaf) (leaves : List (Reverse (ℕ × ℕ))) → FixesVersions table (unfixed table)
     → IsLeafOn table most (unfixed table) old leaf → IsNoLower root leaf.bound → IsWith leaf.bound 0 [] leaves
     → IsGrown table most root (leaf.node ∷ []) (record { parent = 0; unit = 0; version = 0; next = 0 } ∷ []) leaves leaf.known.distortion
 root_grown table most root old leaf leaves fixes is least with_is =
@@ -119,6 +123,17 @@ root_grown table most root old leaf leaves fixes is least with_is =
     at_most_one true = omega arith
     at_most_one false = omega arith
 
+-- a tree that has grown, with what the windows of its nodes come to
+abbrev GrownValued : Table → List SeeingWindow → (most root : ℕ) → List Node → List Link → List (Reverse (ℕ × ℕ)) → (distortion : ℕ) → List Values → Type 0
+GrownValued table seeing most root nodes links leaves distortion values = (grown : IsGrown table most root nodes links leaves distortion) × AreValued table seeing nodes grown.path values
+
+root_grown_valued : (table : Table) (seeing : List SeeingWindow) (most root old : ℕ) (leaf : Leaf) (leaves : List (Reverse (ℕ × ℕ))) → FixesVersions table (unfixed table)
+    → IsLeafOn table most (unfixed table) old leaf → IsNoLower root leaf.bound → IsWith leaf.bound 0 [] leaves → IsValuedBy table seeing (unfixed table) leaf.node leaf.values
+    → GrownValued table seeing most root (leaf.node ∷ []) (record { parent = 0; unit = 0; version = 0; next = 0 } ∷ []) leaves leaf.known.distortion (leaf.values ∷ [])
+unfolding root_grown
+root_grown_valued table seeing most root old leaf leaves fixes is least with_is valued =
+    (root_grown table most root old leaf leaves fixes is least with_is, root_valued table seeing (unfixed table) leaf.node leaf.values valued)
+
 -- the search at its root
 leaf_fits : (table : Table) (node : Node) → IsLeaf node → BranchesOnFitting table node
 leaf_fits table (Branch unit) is = absurd is
@@ -133,15 +148,23 @@ pub rooted_growth : (table : Table) (most old : ℕ) (leaf : Leaf) (fixed : List
     → IsWith leaf.bound 0 before (heap_items growth.leaves) → IsSound table most growth.found
     → growth.time ≡ bound_of_value (value_of_windows table (unfixed table) growth.found.time.items) → ReachesBoth table most growth.found growth.time growth.root → 1 ≤ most
     → IsOrdered (heap_items growth.leaves) → growth.arena.nodes.items ≡ leaf.node ∷ [] → growth.arena.links.items ≡ record { parent = 0; unit = 0; version = 0; next = 0 } ∷ []
-    → growth.known ≡ leaf.known → IsGrowth table most growth
-rooted_growth table most old leaf fixed before growth fixed_is fixes is least none with_is sound time_is both some ordered nodes_is links_is known_is =
+    → growth.arena.values.items ≡ leaf.values ∷ [] → IsValuedBy table growth.found.buffers fixed leaf.node leaf.values → growth.known ≡ leaf.known → IsGrowth table most growth
+rooted_growth table most old leaf fixed before growth fixed_is fixes is least none with_is sound time_is both some ordered nodes_is links_is values_is valued known_is =
     let with_none : IsWith leaf.bound 0 [] (heap_items growth.leaves) = subst (λ (xs : List (Reverse (ℕ × ℕ))). IsWith leaf.bound 0 xs (heap_items growth.leaves)) none with_is in
     let own : IsLeafOn table most (unfixed table) old leaf = subst (λ (f : List (Option ℕ)). IsLeafOn table most f old leaf) fixed_is is in
-    let grown = root_grown table most growth.root old leaf (heap_items growth.leaves) (subst (λ (f : List (Option ℕ)). FixesVersions table f) fixed_is fixes) own least with_none in
-    let at_nodes = subst (λ (ns : List Node). IsGrown table most growth.root ns (record { parent = 0; unit = 0; version = 0; next = 0 } ∷ []) (heap_items growth.leaves) leaf.known.distortion) (sym nodes_is) grown in
-    let at_links = subst (λ (ls : List Link). IsGrown table most growth.root growth.arena.nodes.items ls (heap_items growth.leaves) leaf.known.distortion) (sym links_is) at_nodes in
+    let grown = root_grown_valued table growth.found.buffers most growth.root old leaf (heap_items growth.leaves)
+    (subst (λ (f : List (Option ℕ)). FixesVersions table f) fixed_is fixes) own least with_none
+    (subst (λ (f : List (Option ℕ)). IsValuedBy table growth.found.buffers f leaf.node leaf.values) fixed_is valued) in
+    let at_nodes = subst (λ (ns : List Node). GrownValued table growth.found.buffers most growth.root ns (record { parent = 0; unit = 0; version = 0; next = 0 } ∷ []) (heap_items growth.leaves) leaf.known.distortion
+    (leaf.values ∷ [])) (sym nodes_is) grown in
+    let at_links = subst (λ (ls : List Link). GrownValued table growth.found.buffers most growth.root growth.arena.nodes.items ls (heap_items growth.leaves) leaf.known.distortion (leaf.values ∷ [])) (sym links_is) at_nodes in
+    let at_values = subst (λ (vs : List Values). GrownValued table growth.found.buffers most growth.root growth.arena.nodes.items growth.arena.links.items (heap_items growth.leaves) leaf.known.distortion vs)
+    (sym values_is) at_links in
+    let all = subst (λ (k : Known). GrownValued table growth.found.buffers most growth.root growth.arena.nodes.items growth.arena.links.items (heap_items growth.leaves) k.distortion growth.arena.values.items)
+    (sym known_is) at_values in
     record {
-      grown = subst (λ (k : Known). IsGrown table most growth.root growth.arena.nodes.items growth.arena.links.items (heap_items growth.leaves) k.distortion) (sym known_is) at_links;
+      grown = all.0;
+      valued = all.1;
       ordered = ordered;
       known = subst (λ (k : Known). IsKnown table k) (sym known_is) is.known;
       root = both.bounds;
@@ -150,11 +173,11 @@ rooted_growth table most old leaf fixed before growth fixed_is fixes is least no
     }
 
 -- ---- one child
-pub child_step : (table : Table) (most floor : ℕ) (fixed now : List (Option ℕ)) (unit first k number : ℕ) (start : List (Reverse (ℕ × ℕ))) (children more : Children)
+pub child_step : (table : Table) (seeing : List SeeingWindow) (most floor : ℕ) (fixed now : List (Option ℕ)) (unit first k number : ℕ) (start : List (Reverse (ℕ × ℕ))) (children more : Children)
     → AreChildren table most floor fixed unit first k children.nodes.items start (heap_items children.leaves) children.known.distortion → number ≡ first + k
-    → now ≡ fix unit k fixed → IsWithChild table most floor now number children more
+    → now ≡ fix unit k fixed → IsWithChild table seeing most floor now number children more
     → AreChildren table most floor fixed unit first (k + 1) more.nodes.items start (heap_items more.leaves) more.known.distortion
-child_step table most floor fixed now unit first k number start children more are number_is now_is child =
+child_step table seeing most floor fixed now unit first k number start children more are number_is now_is child =
     let old = children.known.distortion in
     let leaf_is : IsLeafOn table most (fix unit k fixed) old child.leaf = subst (λ (f : List (Option ℕ)). IsLeafOn table most f old child.leaf) now_is child.is in
     let made = one_more_child table most floor fixed unit first k number old children.nodes.items more.nodes.items start (heap_items children.leaves) (heap_items more.leaves) child.leaf are
@@ -182,14 +205,14 @@ fitted table nodes made i unit within leaf fit =
       ],
     )
 
-pub branched_growth : (table : Table) (most : ℕ) (old growth : Growth) (place : Place) (made : List Node) (links : List Link) (is : IsPlace table most old place)
+pub branched_growth : (table : Table) (most : ℕ) (old growth : Growth) (place : Place) (made : List Node) (made_values : List Values) (links : List Link) (is : IsPlace table most old place)
     → AreChildren table most growth.root place.fixed place.unit (length old.arena.nodes.items) (versions_of table place.unit) made (heap_items old.leaves) (heap_items growth.leaves) growth.known.distortion
     → AreLinkedBehind place.number place.unit (versions_of table place.unit) old.arena.links.items growth.arena.links.items → IsKnown table growth.known
     → growth.known.distortion ≤ old.known.distortion → IsOrdered (heap_items growth.leaves) → growth.arena.nodes.items ≡ set old.arena.nodes.items place.number (Branch place.unit) ++ made
-    → growth.root ≤ old.root → old.time ≤ growth.root → (unit_fits table place.unit ≡ true → growth.root ≡ old.root) → growth.time ≡ old.time → growth.found ≡ old.found
+    → AreValuedBelow table old.found.buffers place.fixed place.unit (versions_of table place.unit) made made_values → growth.arena.values.items ≡ old.arena.values.items ++ made_values → growth.root ≤ old.root → old.time ≤ growth.root → (unit_fits table place.unit ≡ true → growth.root ≡ old.root) → growth.time ≡ old.time → growth.found ≡ old.found
     → IsBranched table most old growth
-unfolding grown_lower
-branched_growth table most old growth place made links is children linked known kept ordered nodes_is lower least fits time_is found_is =
+unfolding grown_lower grown_branched
+branched_growth table most old growth place made made_values links is children linked known kept ordered nodes_is valued values_is lower least fits time_is found_is =
     let nodes = old.arena.nodes.items in
     let taken = is.taken in
     let root = growth.root in
@@ -210,12 +233,18 @@ branched_growth table most old growth place made links is children linked known 
     } in
     let all = grown_branched table most root nodes old.arena.links.items growth.arena.links.items taken.all (heap_items old.leaves) (heap_items growth.leaves) taken.top old.known.distortion
     growth.known.distortion i place.unit made grown growing in
-    let at_nodes = subst (λ (ns : List Node). IsGrown table most root ns growth.arena.links.items (heap_items growth.leaves) growth.known.distortion) (sym nodes_is) all in
+    let below = subst (λ (f : List (Option ℕ)). AreValuedBelow table old.found.buffers f place.unit (versions_of table place.unit) made made_values) is.fixed valued in
+    let all_valued = branched_valued table old.found.buffers nodes made grown.path old.arena.values.items made_values i place.unit (versions_of table place.unit) open_is.within children.count taken.valued below in
+    let at_nodes = subst (λ (ns : List Node). GrownValued table old.found.buffers most root ns growth.arena.links.items (heap_items growth.leaves) growth.known.distortion (old.arena.values.items ++ made_values))
+    (sym nodes_is) (all, all_valued) in
+    let at_values = subst (λ (vs : List Values). GrownValued table old.found.buffers most root growth.arena.nodes.items growth.arena.links.items (heap_items growth.leaves) growth.known.distortion vs)
+    (sym values_is) at_nodes in
     let long = long_with nodes made i (Branch place.unit) in
     let size : length growth.arena.nodes.items ≡ length nodes + versions_of table place.unit = ap length nodes_is ∙ omega (arith, long, children.count) in
     record {
       is = record {
-        grown = at_nodes;
+        grown = at_values.0;
+        valued = subst (λ (f : Found). AreValued table f.buffers growth.arena.nodes.items at_values.0.path growth.arena.values.items) (sym found_is) at_values.1;
         ordered = ordered;
         known = known;
         root = λ choice fit scheduled. omega (arith, taken.root choice fit scheduled, lower);

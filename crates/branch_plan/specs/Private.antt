@@ -7,3 +7,4 @@ pub mod Growth
 pub mod Known
 pub mod Leaves
 pub mod Root
+pub mod Valued

@@ -1,10 +1,12 @@
 ghost use Rattle.std.specs.Prelude.{◌≤◌, ◌<◌};
 ghost use Rattle.version_table.specs.Table.{IsValidTable};
 
+use crate::fitting::Owner;
+use crate::found::Found;
 use bound_certificate::Node;
 use buffer_windows::{BufferWindow, Charged, charge_of, stop};
-use dual_bounds::Window;
 use dual_bounds::constants::DISTORTION_PARTS;
+use dual_bounds::{Window, Windows, copied};
 use list_types::OutOfMemory;
 use std::alloc::Global;
 use stream_constants::decoder::EB_UNIT_BYTES;
@@ -32,12 +34,72 @@ pub(crate) fn costs_apart(table: &Table, unit: usize, leaf: &Node) -> u64
     u64::MAX
 }
 
-/// The units of a table, numbered over all programs in order, that whose two cheapest versions lie closest in these windows first.
-/// Fails only for want of memory.
-pub(crate) fn closest_first(
+/// In which order the units of a table are branched on at leaves that have the root's windows, those first whose two cheapest versions
+/// lie closest. Units are numbered over all programs in order.
+#[derive(Drop)]
+pub(crate) struct Orders {
+    /// The root's windows of time.
+    windows: Windows,
+    /// The order at leaves that have these.
+    time: Vec<ApartUnit>,
+    /// The order at leaves that see the buffers.
+    seen: Vec<ApartUnit>,
+}
+
+impl Orders {
+    /// No order: each leaf looks for its unit.
+    pub(crate) fn none(alloc: Global) -> Orders {
+        Orders {
+            windows: Windows::new(),
+            time: Vec::new(alloc),
+            seen: Vec::new(alloc),
+        }
+    }
+
+    /// The orders for the windows that were found for the root. Fails only for want of memory.
+    pub(crate) fn of(alloc: Global, table: &Table, found: &Found) -> Result<Orders, OutOfMemory>
+        requires valid { IsValidTable table.now }
+    {
+        Ok(Orders {
+            windows: copied(found.time.as_slice()),
+            time: closest_first(alloc, table, Either::Time(found.time.as_slice()))?,
+            seen: closest_first(alloc, table, Either::Seen(found.buffers.as_slice()))?,
+        })
+    }
+
+    /// The order at a leaf; none where its windows are its own.
+    pub(crate) fn of_leaf(&self, leaf: &Node) -> &[ApartUnit] {
+        match leaf {
+            Node::BufferWindow { with: _ } => self.seen.as_slice(),
+            Node::Window { with } => {
+                if with.as_slice() == self.windows.as_slice() {
+                    self.time.as_slice()
+                } else {
+                    &[]
+                }
+            }
+            Node::Branch { unit: _ } => &[],
+            Node::Dual { with: _ } => &[],
+            Node::Run { scheduled: _ } => &[],
+            Node::Open => &[],
+        }
+    }
+}
+
+/// Windows of one of the two kinds.
+#[derive(Clone, Copy)]
+enum Either<'a> {
+    /// Windows of time.
+    Time(&'a [Window]),
+    /// Windows that see the buffers.
+    Seen(&'a [BufferWindow]),
+}
+
+/// The units of a table, that whose two cheapest versions lie closest in these windows first. Fails only for want of memory.
+fn closest_first(
     alloc: Global,
     table: &Table,
-    windows: &[BufferWindow],
+    windows: Either<'_>,
 ) -> Result<Vec<ApartUnit>, OutOfMemory>
     requires valid { IsValidTable table.now }
 {
@@ -58,7 +120,7 @@ pub(crate) fn closest_first(
 fn add_units(
     into: &mut Vec<ApartUnit>,
     units: &[Unit],
-    windows: &[BufferWindow],
+    windows: Either<'_>,
     owner: Owner,
 ) -> Result<(), OutOfMemory>
     requires slot { 1 ≤ owner.slot }
@@ -67,11 +129,22 @@ fn add_units(
     for unit in units {
         let number = u32::try_from(into.len()).unwrap_or(u32::MAX);
         into.push(ApartUnit {
-            apart: apart_in_buffers(unit, windows, owner),
+            apart: apart_in(unit, windows, owner),
             number,
         })?;
     }
     Ok(())
+}
+
+/// How far apart the costs of a unit's two cheapest versions lie in windows of one of the two kinds.
+fn apart_in(unit: &Unit, windows: Either<'_>, owner: Owner) -> u64
+    requires slot { 1 ≤ owner.slot }
+    requires program { owner.number < 8 }
+{
+    match windows {
+        Either::Time(windows) => apart_in_time(unit, price_of(windows, unit.due)),
+        Either::Seen(windows) => apart_in_buffers(unit, windows, owner),
+    }
 }
 
 /// A unit with its number over all programs in order.
@@ -81,17 +154,6 @@ pub(crate) struct ApartUnit {
     apart: u64,
     /// Its number.
     pub number: u32,
-}
-
-/// What stands for each unit of a program.
-#[derive(Clone, Copy)]
-struct Owner {
-    /// Ticks of a slot.
-    slot: u32,
-    /// The program's number in the table.
-    number: usize,
-    /// The size of its elementary buffer in units of 2,048 bytes.
-    vbv: u8,
 }
 
 /// The same of a unit of a program.

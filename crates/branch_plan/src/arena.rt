@@ -3,6 +3,7 @@ ghost use Rattle.version_table.specs.Table.{units_of};
 ghost use Rattle.bound_certificate.specs.declared.cert.Node.TheVariants.{Open};
 ghost use Rattle.branch_plan.specs.Private.Growth.{ArePaths, AreLinked, IsOrder, StandOnce, node_of};
 
+use crate::values::Values;
 use bound_certificate::Node;
 use dual_bounds::{Fixed, nothing_fixed};
 use list_types::{ListOf, OutOfMemory};
@@ -30,6 +31,8 @@ pub(crate) struct Arena {
     pub nodes: Vec<Node>,
     /// Where each hangs.
     pub links: Vec<Link>,
+    /// What the windows of each leaf come to.
+    pub values: Vec<Values>,
 }
 
 /// The versions that are fixed on the path to a node: one pass up to the root.
@@ -76,7 +79,9 @@ pub(crate) fn in_order(alloc: Global, arena: Arena) -> Result<ListOf<Node>, OutO
     let Arena {
         nodes: mut left,
         links,
+        values,
     } = arena;
+    drop(values);
     let count = left.len();
     let mut nodes = ListOf::from_vec(Vec::with_capacity(alloc, count)?);
     let mut at = 0;

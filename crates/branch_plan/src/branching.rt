@@ -7,7 +7,7 @@ ghost use Rattle.branch_plan.specs.Private.Found.{IsSound};
 ghost use Rattle.branch_plan.specs.Private.Growth.{IsOrdered};
 ghost use Rattle.branch_plan.specs.Private.Known.{IsKnown};
 
-use crate::apart::{ApartUnit, closest_first};
+use crate::apart::Orders;
 use crate::arena::{Arena, Link, path_to};
 use crate::changes::unit_at;
 use crate::children::{Place, with_branch};
@@ -16,6 +16,7 @@ use crate::known::Known;
 use crate::leaves::{Asked, leaf_on, unit_to_branch};
 use crate::open::{OpenLeaves, add_leaf, no_leaves, take_least};
 use crate::root::root_bound;
+use crate::values::Values;
 use dual_bounds::{copied, nothing_fixed};
 use list_types::OutOfMemory;
 use multiplier_search::LinearRelaxation;
@@ -86,17 +87,9 @@ pub(crate) fn branched(
     ensures kept { IfOk result (λ ended. ended.known.distortion ≤ known.distortion) }
 {
     let mut growth = rooted(alloc, table, run, known, found, nodes)?;
-    let order = order_for(alloc, table, &growth.found, nodes)?;
+    let orders = orders_for(alloc, table, &growth.found, nodes)?;
     for _branches in 0..nodes {
-        match branch_least(
-            alloc,
-            table,
-            relaxation,
-            order.as_slice(),
-            run,
-            growth,
-            nodes,
-        )? {
+        match branch_least(alloc, table, relaxation, &orders, run, growth, nodes)? {
             Step::Grown(grown) => growth = grown,
             Step::Ended(ended) => return Ok(ended),
         }
@@ -104,19 +97,19 @@ pub(crate) fn branched(
     unreachable!()
 }
 
-/// In which order the units of a table are branched on at leaves that see the buffers; none where a tree has no branch.
-fn order_for(
+/// In which order the units of a table are branched on; none where a tree has no branch.
+fn orders_for(
     alloc: Global,
     table: &Table,
     found: &Found,
     nodes: u32,
-) -> Result<Vec<ApartUnit>, OutOfMemory>
+) -> Result<Orders, OutOfMemory>
     requires { IsValidTable table.now }
 {
     if nodes > 1 {
-        closest_first(alloc, table, found.buffers.as_slice())
+        Orders::of(alloc, table, found)
     } else {
-        Ok(Vec::new(alloc))
+        Ok(Orders::none(alloc))
     }
 }
 
@@ -158,14 +151,17 @@ fn rooted(
         windows,
         &found.buffers,
         asked,
+        Values::unknown(),
     )?;
     let mut leaves = no_leaves(alloc);
     add_if_open(&mut leaves, leaf.bound, 0)?;
     let mut arena = Arena {
         nodes: Vec::new(alloc),
         links: Vec::new(alloc),
+        values: Vec::new(alloc),
     };
     arena.nodes.push(leaf.node)?;
+    arena.values.push(leaf.values)?;
     arena.links.push(Link {
         parent: 0,
         unit: 0,
@@ -206,7 +202,7 @@ fn branch_least(
     alloc: Global,
     table: &Table,
     relaxation: Option<&LinearRelaxation>,
-    order: &[ApartUnit],
+    orders: &Orders,
     run: &mut SlotRun<'_>,
     growth: Growth,
     nodes: u32,
@@ -223,7 +219,7 @@ fn branch_least(
         Some(Reverse((bound, number))) => {
             if bound < growth.known.distortion {
                 branch_at(
-                    alloc, table, relaxation, order, run, growth, bound, number, nodes,
+                    alloc, table, relaxation, orders, run, growth, bound, number, nodes,
                 )
             } else {
                 Ok(Step::Ended(as_best(growth)))
@@ -258,7 +254,7 @@ fn branch_at(
     alloc: Global,
     table: &Table,
     relaxation: Option<&LinearRelaxation>,
-    order: &[ApartUnit],
+    orders: &Orders,
     run: &mut SlotRun<'_>,
     growth: Growth,
     bound: u64,
@@ -274,7 +270,7 @@ fn branch_at(
 {
     let fixed = path_to(alloc, table, growth.arena.links.as_slice(), number)?;
     let leaf = &growth.arena.nodes[number as usize];
-    let Some(unit) = unit_to_branch(table, &fixed, leaf, order) else {
+    let Some(unit) = unit_to_branch(table, &fixed, leaf, orders) else {
         unreachable!()
     };
     let versions = unit_at(table, unit as usize).versions.len();

@@ -1,4 +1,4 @@
-ghost use Rattle.std.specs.Prelude.{◌≡◌, ◌+◌, ◌<◌, ◌≤◌, ◌^◌, true, false, [], length, IfOk, OnOk, ◌≤ℤ◌};
+ghost use Rattle.std.specs.Prelude.{◌≡◌, ◌+◌, ◌<◌, ◌≤◌, ◌^◌, true, false, [], length, None, IfOk, OnOk, ◌≤ℤ◌};
 ghost use Rattle.std.specs.BinaryHeap.{heap_items};
 ghost use Rattle.version_table.specs.declared.limits.TheConstants.{NODES_MOST, VERSIONS_MOST};
 ghost use Rattle.version_table.specs.Table.{IsValidTable};
@@ -9,10 +9,12 @@ ghost use Rattle.certificate_checker.specs.Shown.{fix, versions_of};
 ghost use Rattle.multiplier_search.specs.Buffered.{AreSearchedBuffered};
 ghost use Rattle.branch_plan.specs.declared.limits.TheConstants.{FEW_WINDOWS_MOST, NODES_WITH_MANY_WINDOWS_MOST};
 ghost use Rattle.branch_plan.specs.Private.Branching.{AreChildren, AreLinkedBehind, IsBranched, IsPlace, IsWithChild};
-ghost use Rattle.branch_plan.specs.Private.Found.{IsReached, IsReachedAbove, buffers_of, time_of};
+ghost use Rattle.branch_plan.specs.Private.Found.{IsReached, IsReachedAbove, time_of};
 ghost use Rattle.branch_plan.specs.Private.Growth.{IsOrdered};
 ghost use Rattle.branch_plan.specs.Private.Known.{IsKnown};
 ghost use Rattle.branch_plan.specs.Private.Leaves.{IsFreeUnit};
+ghost use Rattle.branch_plan.specs.Private.Valued.{AreKept, AreValuedBelow, IsValuedBy};
+ghost use Rattle.branch_plan.specs.declared.values.TheConstants.{UNKNOWN};
 
 use crate::arena::Link;
 use crate::branching::{Growth, add_if_open};
@@ -23,6 +25,7 @@ use crate::known::Known;
 use crate::leaves::{Asked, Leaf, leaf_on, sees};
 use crate::limits::{NODES_WITH_MANY_WINDOWS_MOST, RELAXED_MOST};
 use crate::open::OpenLeaves;
+use crate::values::{KeptValue, Values, values_with};
 use bound_certificate::Node;
 use buffer_windows::BufferWindows;
 use dual_bounds::{Fixed, Windows, copied};
@@ -48,6 +51,8 @@ pub(crate) struct Place {
 pub(crate) struct Children {
     /// Their nodes.
     pub nodes: Vec<Node>,
+    /// What the windows of each come to.
+    pub values: Vec<Values>,
     /// The leaves that may be branched, theirs among them.
     pub leaves: OpenLeaves,
     /// The best choice that is known.
@@ -83,27 +88,40 @@ pub(crate) fn with_branch(
     let unit = place.unit;
     let first = arena.nodes.len() as u32;
     let windows = time_of(&arena.nodes[number as usize], &found);
-    let buffers = buffers_of(alloc, &arena.nodes[number as usize], &found)?;
     let asked = Asked {
         floor: kept_bound(table, unit as usize, root, time),
         nodes,
         quick: sees(&arena.nodes[number as usize]),
     };
+    let values = arena.values[number as usize];
     let start = Children {
         nodes: Vec::new(alloc),
+        values: Vec::new(alloc),
         leaves,
         known,
     };
     let Children {
         nodes: mut made,
+        values: mut made_values,
         leaves,
         known,
     } = children_of(
-        alloc, table, relaxation, run, start, &windows, &buffers, place, first, asked,
+        alloc,
+        table,
+        relaxation,
+        run,
+        start,
+        &windows,
+        &found.buffers,
+        place,
+        first,
+        asked,
+        values,
     )?;
     link_children(&mut arena.links, number, unit, made.len() as u32)?;
     arena.nodes[number as usize] = Node::Branch { unit };
     arena.nodes.append(&mut made)?;
+    arena.values.append(&mut made_values)?;
     Ok(Growth {
         arena,
         leaves,
@@ -167,18 +185,21 @@ fn children_of(
     place: Place,
     first: u32,
     asked: Asked,
+    values: Values,
 ) -> Result<Children, OutOfMemory>
     requires valid { IsValidTable table.now }
     requires run { run.old.table ≡ table.now }
     requires known { IsKnown table.now start.known }
     requires order { IsOrdered (heap_items start.leaves) }
     requires none { start.nodes.items ≡ [] }
+    requires no_values { start.values.items ≡ [] }
     requires fixed { FixesVersions table.now place.fixed }
     requires free { IsFreeUnit table.now place.fixed place.unit }
     requires windows { AreSearched windows.now.items }
     requires few_windows { NODES_WITH_MANY_WINDOWS_MOST < asked.nodes → length windows.now.items ≤ FEW_WINDOWS_MOST }
     requires buffers { AreSearchedBuffered table.now buffers.now }
     requires floor { IsReachedAbove table.now asked.nodes place.fixed place.unit windows.now.items buffers.now asked.floor }
+    requires values { AreKept table.now place.fixed windows.now.items buffers.now values }
     requires first { first ≤ NODES_MOST }
     ensures run { run.new.table ≡ table.now }
     ensures known { IfOk result (λ children. IsKnown table.now children.known) }
@@ -186,6 +207,7 @@ fn children_of(
     ensures order { IfOk result (λ children. IsOrdered (heap_items children.leaves)) }
     ensures children { IfOk result (λ children. AreChildren table.now asked.nodes asked.floor place.fixed place.unit first (versions_of table.now place.unit)
         children.nodes.items (heap_items start.leaves) (heap_items children.leaves) children.known.distortion) }
+    ensures values { IfOk result (λ children. AreValuedBelow table.now buffers.now place.fixed place.unit (versions_of table.now place.unit) children.nodes.items children.values.items) }
 {
     let Place {
         number: _,
@@ -201,6 +223,8 @@ fn children_of(
     for k in 0..unit_at(table, unit as usize).versions.len() {
         fixed = with_version(fixed, unit as usize, k as u8);
         let own = windows_for(alloc, table, relaxation, &fixed, windows, relaxed)?;
+        let more = values_with(table, unit as usize, k as u8, windows, buffers, values);
+        let own_values = values_for(more, relaxed);
         children = with_child(
             alloc,
             table,
@@ -210,6 +234,7 @@ fn children_of(
             own,
             buffers,
             own_asked,
+            own_values,
             first + k as u32,
         )?;
     }
@@ -260,6 +285,22 @@ fn windows_for(
     }
 }
 
+/// What is known of the values of a child's windows: where those of time are its own, not what they come to.
+fn values_for(values: Values, relaxed: bool) -> Values
+    ensures seen { result.seen ≡ values.seen }
+    ensures time { relaxed ≡ false → result.time ≡ values.time }
+    ensures own { relaxed ≡ true → result.time.parts ≡ UNKNOWN }
+{
+    if relaxed {
+        Values {
+            time: KeptValue::unknown(),
+            ..values
+        }
+    } else {
+        values
+    }
+}
+
 /// The children with one more, of this number.
 fn with_child(
     alloc: Global,
@@ -270,6 +311,7 @@ fn with_child(
     windows: Windows,
     buffers: &BufferWindows,
     asked: Asked,
+    values: Values,
     number: u32,
 ) -> Result<Children, OutOfMemory>
     requires valid { IsValidTable table.now }
@@ -281,22 +323,31 @@ fn with_child(
     requires few_windows { NODES_WITH_MANY_WINDOWS_MOST < asked.nodes → length windows.items ≤ FEW_WINDOWS_MOST }
     requires buffers { AreSearchedBuffered table.now buffers.now }
     requires floor { IsReached table.now asked.nodes fixed.now windows.items buffers.now asked.floor }
+    requires values { AreKept table.now fixed.now windows.items buffers.now values }
     ensures run { run.new.table ≡ table.now }
     ensures order { IfOk result (λ more. IsOrdered (heap_items more.leaves)) }
-    ensures child { IfOk result (IsWithChild table.now asked.nodes asked.floor fixed.now number children) }
+    ensures child { IfOk result (IsWithChild table.now buffers.now asked.nodes asked.floor fixed.now number children) }
 {
     let Children {
         mut nodes,
+        values: mut made_values,
         mut leaves,
         known,
     } = children;
-    let Leaf { node, bound, known } = leaf_on(
-        alloc, table, run, known, fixed, windows, buffers, asked,
+    let Leaf {
+        node,
+        bound,
+        values,
+        known,
+    } = leaf_on(
+        alloc, table, run, known, fixed, windows, buffers, asked, values,
     )?;
     add_if_open(&mut leaves, bound, number)?;
     nodes.push(node)?;
+    made_values.push(values)?;
     Ok(Children {
         nodes,
+        values: made_values,
         leaves,
         known,
     })
@@ -313,19 +364,5 @@ fn time_of(node: &Node, found: &Found) -> Windows
         Node::Run { scheduled: _ } => copied(found.time.as_slice()),
         Node::Open => copied(found.time.as_slice()),
         Node::BufferWindow { with: _ } => copied(found.time.as_slice()),
-    }
-}
-
-/// The windows that see the buffers of a node that has some, and else those of the root. Fails only for want of memory.
-fn buffers_of(alloc: Global, node: &Node, found: &Found) -> Result<BufferWindows, OutOfMemory>
-    ensures { IfOk result (λ buffers. buffers ≡ buffers_of node.now found.now.buffers) }
-{
-    match node {
-        Node::Window { with: _ } => BufferWindows::copied(alloc, found.buffers.as_slice()),
-        Node::Branch { unit: _ } => BufferWindows::copied(alloc, found.buffers.as_slice()),
-        Node::Dual { with: _ } => BufferWindows::copied(alloc, found.buffers.as_slice()),
-        Node::Run { scheduled: _ } => BufferWindows::copied(alloc, found.buffers.as_slice()),
-        Node::Open => BufferWindows::copied(alloc, found.buffers.as_slice()),
-        Node::BufferWindow { with } => BufferWindows::copied(alloc, with.as_slice()),
     }
 }

@@ -1,10 +1,46 @@
 ghost use Rattle.std.specs.Prelude.{◌≡◌, ◌*◌, ◌<◌, ◌≤◌, nat_le, length, true, false};
 ghost use Rattle.std.specs.List.{list_all};
-ghost use Rattle.version_table.specs.Table.{units_of};
-ghost use Rattle.branch_plan.specs.Bound.{unit_fits};
+ghost use Rattle.version_table.specs.Table.{IsValidTable, units_of};
+ghost use Rattle.version_table.specs.declared.limits.TheConstants.{PROGRAMS_MOST};
+ghost use Rattle.branch_plan.specs.Bound.{owned_at, unit_fits};
+ghost use Rattle.branch_plan.specs.Private.Changes.{unit_at};
 
 use stream_constants::decoder::EB_UNIT_BYTES;
 use version_table::{Table, Version};
+
+/// What stands for each unit of a program.
+#[derive(Clone, Copy)]
+pub(crate) struct Owner {
+    /// Ticks of a slot.
+    pub slot: u32,
+    /// The program's number in the table.
+    pub number: usize,
+    /// The size of its elementary buffer in units of 2,048 bytes.
+    pub vbv: u8,
+}
+
+/// What stands for a unit, by its program. Units are numbered over all programs in order.
+pub(crate) fn owner_of(table: &Table, unit: usize) -> Owner
+    requires valid { IsValidTable table.now }
+    requires unit { unit < length (units_of table.now) }
+    ensures slot { result.slot ≡ table.now.slot }
+    ensures few { result.number < PROGRAMS_MOST }
+    ensures owned { owned_at table.now unit ≡ record { program = result.number; vbv = result.vbv; unit = unit_at table.now unit } }
+{
+    let mut rest = unit;
+    for (number, program) in table.programs.as_slice().iter().enumerate() {
+        let units = program.units.as_slice();
+        if rest < units.len() {
+            return Owner {
+                slot: table.slot,
+                number,
+                vbv: program.vbv,
+            };
+        }
+        rest -= units.len();
+    }
+    unreachable!()
+}
 
 /// Whether each version of a unit fits its program's elementary buffer. Units are numbered over all programs in order.
 pub(crate) fn each_fits(table: &Table, unit: usize) -> bool

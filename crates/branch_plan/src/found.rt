@@ -51,12 +51,7 @@ pub(crate) fn found_windows(
 
 /// The bound of windows that see the buffers where these versions are fixed; none where they are too many for each leaf of a tree of so
 /// many nodes, or a unit has no version left.
-pub(crate) fn seen_bound(
-    table: &Table,
-    fixed: &Fixed,
-    buffers: &BufferWindows,
-    nodes: u32,
-) -> Option<u128>
+fn seen_bound(table: &Table, fixed: &Fixed, buffers: &BufferWindows, nodes: u32) -> Option<u128>
     requires valid { IsValidTable table.now }
     requires fixed { FixesVersions table.now fixed.now }
     requires searched { AreSearchedBuffered table.now buffers.now }

@@ -1,12 +1,12 @@
-ghost use Rattle.std.specs.Prelude.{◌≡◌, ◌<◌, ◌≤◌, ℕ, true, false, length, slice_index_or, Some, None, IfOk, IfSome, MatchOption};
+ghost use Rattle.std.specs.Prelude.{◌≡◌, ◌<◌, ◌≤◌, ℕ, true, false, List, length, slice_index_or, Some, None, IfOk, IfSome, MatchOption};
 ghost use Rattle.version_table.specs.Choice.{Fits, distortion_of_choice};
 ghost use Rattle.version_table.specs.Table.{IsValidTable, units_of};
 ghost use Rattle.slot_rule.specs.Schedule.{IsScheduled};
-ghost use Rattle.dual_bounds.specs.declared.constants.TheConstants.{WINDOWS_MOST};
 ghost use Rattle.dual_bounds.specs.Bounds.{bound_of_value};
 ghost use Rattle.dual_bounds.specs.Fixed.{FixesVersions};
 ghost use Rattle.dual_bounds.specs.Values.{value_of_windows};
 ghost use Rattle.multiplier_search.specs.Windows.{AreSearched};
+ghost use Rattle.buffer_windows.specs.declared.windows.BufferWindow.{BufferWindow as SeeingWindow};
 ghost use Rattle.bound_certificate.specs.declared.cert.Node.TheVariants.{BufferWindow};
 ghost use Rattle.multiplier_search.specs.Buffered.{AreSearchedBuffered};
 ghost use Rattle.branch_plan.specs.Bound.{bound_where_few};
@@ -17,14 +17,16 @@ ghost use Rattle.branch_plan.specs.Private.Known.{IsKnown};
 ghost use Rattle.branch_plan.specs.Private.Changes.{unit_at};
 ghost use Rattle.branch_plan.specs.Private.Found.{IsNoLower, IsReached};
 ghost use Rattle.branch_plan.specs.Private.Leaves.{IsFreeUnit, IsLeafOn};
+ghost use Rattle.branch_plan.specs.Private.Valued.{AreKept, IsSeenKept, IsTimeKept, IsValuedBy};
+ghost use Rattle.branch_plan.specs.declared.values.TheConstants.{UNKNOWN};
 
-use crate::apart::{ApartUnit, costs_apart};
+use crate::apart::{ApartUnit, Orders, costs_apart};
 use crate::changes::unit_at;
-use crate::found::seen_bound;
 use crate::known::{Known, better};
+use crate::values::{KeptValue, Valued, Values, seen_valued, time_valued};
 use bound_certificate::{Node, priced_windows};
 use buffer_windows::BufferWindows;
-use dual_bounds::{Fixed, Windows, bound_of, window_value};
+use dual_bounds::{Fixed, Windows};
 use list_types::{ListOf, OutOfMemory};
 use slot_rule::SlotRun;
 use std::alloc::Global;
@@ -37,6 +39,8 @@ pub(crate) struct Leaf {
     pub node: Node,
     /// Its bound, where it may be branched: below the best distortion that is known.
     pub bound: Option<u64>,
+    /// What its windows come to.
+    pub values: Values,
     /// The best choice.
     pub known: Known,
 }
@@ -63,6 +67,7 @@ pub(crate) fn leaf_on(
     windows: Windows,
     buffers: &BufferWindows,
     asked: Asked,
+    values: Values,
 ) -> Result<Leaf, OutOfMemory>
     requires valid { IsValidTable table.now }
     requires run { run.old.table ≡ table.now }
@@ -72,12 +77,14 @@ pub(crate) fn leaf_on(
     requires few_windows { NODES_WITH_MANY_WINDOWS_MOST < asked.nodes → length windows.items ≤ FEW_WINDOWS_MOST }
     requires buffers { AreSearchedBuffered table.now buffers.now }
     requires floor { IsReached table.now asked.nodes fixed.now windows.items buffers.now asked.floor }
+    requires values { AreKept table.now fixed.now windows.items buffers.now values }
     ensures run { run.new.table ≡ table.now }
     ensures leaf { IfOk result (IsLeafOn table.now asked.nodes fixed.now known.distortion) }
     ensures floor { IfOk result (λ leaf. IsNoLower asked.floor leaf.bound) }
+    ensures valued { IfOk result (λ leaf. IsValuedBy table.now buffers.now fixed.now leaf.node leaf.values) }
 {
     match free_unit(table, fixed) {
-        Some(_unit) => priced_leaf(alloc, table, known, fixed, windows, buffers, asked),
+        Some(_unit) => priced_leaf(alloc, table, known, fixed, windows, buffers, asked, values),
         None => run_leaf(alloc, table, run, known, fixed, asked.nodes),
     }
 }
@@ -120,25 +127,20 @@ fn closest_unit(table: &Table, fixed: &Fixed, leaf: &Node) -> Option<u32>
     closest
 }
 
-/// The same at a leaf that may see the buffers, where the units stand in this order for all such leaves of its tree: these have
-/// the same windows.
+/// The same, where the units stand in order for the windows that were found for the root: these most leaves have.
 pub(crate) fn unit_to_branch(
     table: &Table,
     fixed: &Fixed,
     leaf: &Node,
-    order: &[ApartUnit],
+    orders: &Orders,
 ) -> Option<u32>
     requires valid { IsValidTable table.now }
     requires fixed { FixesVersions table.now fixed.now }
     ensures { MatchOption result (LeavesOne table.now fixed.now) (IsFreeUnit table.now fixed.now) }
 {
-    if sees(leaf) {
-        match first_free(table, fixed, order) {
-            Some(unit) => Some(unit),
-            None => closest_unit(table, fixed, leaf),
-        }
-    } else {
-        closest_unit(table, fixed, leaf)
+    match first_free(table, fixed, orders.of_leaf(leaf)) {
+        Some(unit) => Some(unit),
+        None => closest_unit(table, fixed, leaf),
     }
 }
 
@@ -191,6 +193,7 @@ fn priced_leaf(
     windows: Windows,
     buffers: &BufferWindows,
     asked: Asked,
+    values: Values,
 ) -> Result<Leaf, OutOfMemory>
     requires valid { IsValidTable table.now }
     requires known { IsKnown table.now known }
@@ -199,17 +202,38 @@ fn priced_leaf(
     requires few_windows { NODES_WITH_MANY_WINDOWS_MOST < asked.nodes → length windows.items ≤ FEW_WINDOWS_MOST }
     requires buffers { AreSearchedBuffered table.now buffers.now }
     requires floor { IsReached table.now asked.nodes fixed.now windows.items buffers.now asked.floor }
+    requires values { AreKept table.now fixed.now windows.items buffers.now values }
     requires free { (unit : ℕ) × IsFreeUnit table.now fixed.now unit }
     ensures leaf { IfOk result (IsLeafOn table.now asked.nodes fixed.now known.distortion) }
     ensures floor { IfOk result (λ leaf. IsNoLower asked.floor leaf.bound) }
+    ensures valued { IfOk result (λ leaf. IsValuedBy table.now buffers.now fixed.now leaf.node leaf.values) }
 {
-    match seen_bound(table, fixed, buffers, asked.nodes) {
-        Some(bound) => closer_leaf(alloc, table, known, fixed, windows, buffers, asked, bound),
-        None => time_leaf(alloc, table, known, fixed, &windows, asked.nodes),
+    match seen_valued(table, fixed, buffers, asked.nodes, values.seen) {
+        Some(seen) => closer_leaf(
+            alloc,
+            table,
+            known,
+            fixed,
+            windows,
+            buffers,
+            asked,
+            values.time,
+            seen,
+        ),
+        None => time_leaf(
+            alloc,
+            table,
+            known,
+            fixed,
+            &windows,
+            asked.nodes,
+            values.time,
+            KeptValue::unknown(),
+        ),
     }
 }
 
-/// The same, where this is the bound of the windows that see the buffers.
+/// The same, where the windows that see the buffers come to this, and those of time to what is kept.
 fn closer_leaf(
     alloc: Global,
     table: &Table,
@@ -218,7 +242,8 @@ fn closer_leaf(
     windows: Windows,
     buffers: &BufferWindows,
     asked: Asked,
-    bound: u128,
+    time: KeptValue,
+    seen: Valued,
 ) -> Result<Leaf, OutOfMemory>
     requires valid { IsValidTable table.now }
     requires known { IsKnown table.now known }
@@ -227,21 +252,33 @@ fn closer_leaf(
     requires few_windows { NODES_WITH_MANY_WINDOWS_MOST < asked.nodes → length windows.items ≤ FEW_WINDOWS_MOST }
     requires buffers { AreSearchedBuffered table.now buffers.now }
     requires floor { IsReached table.now asked.nodes fixed.now windows.items buffers.now asked.floor }
+    requires time { IsTimeKept table.now fixed.now windows.items time }
     requires free { (unit : ℕ) × IsFreeUnit table.now fixed.now unit }
-    requires bound { bound_where_few table.now asked.nodes fixed.now buffers.now ≡ Some bound }
+    requires bound { bound_where_few table.now asked.nodes fixed.now buffers.now ≡ Some seen.bound }
+    requires seen { IsSeenKept table.now fixed.now buffers.now seen.kept }
     ensures leaf { IfOk result (IsLeafOn table.now asked.nodes fixed.now known.distortion) }
     ensures floor { IfOk result (λ leaf. IsNoLower asked.floor leaf.bound) }
+    ensures valued { IfOk result (λ leaf. IsValuedBy table.now buffers.now fixed.now leaf.node leaf.values) }
 {
-    if is_enough(asked, bound) {
-        let leaf = seen_leaf(alloc, known, buffers, bound)?;
+    if is_enough(asked, seen.bound) {
+        let leaf = seen_leaf(alloc, known, buffers, seen)?;
         return Ok(leaf);
     }
-    let time = bound_on(table, fixed, &windows);
-    if time < bound {
-        let leaf = seen_leaf(alloc, known, buffers, bound)?;
+    let own = time_valued(table, fixed, &windows, time);
+    if own.bound < seen.bound {
+        let leaf = seen_leaf(alloc, known, buffers, seen)?;
         Ok(leaf)
     } else {
-        time_leaf(alloc, table, known, fixed, &windows, asked.nodes)
+        time_leaf(
+            alloc,
+            table,
+            known,
+            fixed,
+            &windows,
+            asked.nodes,
+            own.kept,
+            seen.kept,
+        )
     }
 }
 
@@ -252,27 +289,33 @@ fn is_enough(asked: Asked, bound: u128) -> bool
     asked.quick && u128::from(asked.floor) <= bound
 }
 
-/// The leaf with windows that see the buffers, whose bound this is.
+/// The leaf with windows that see the buffers, which come to this. Fails only for want of memory.
 fn seen_leaf(
     alloc: Global,
     known: Known,
     buffers: &BufferWindows,
-    bound: u128,
+    seen: Valued,
 ) -> Result<Leaf, OutOfMemory>
     ensures node { IfOk result (λ leaf. leaf.node ≡ BufferWindow buffers.now) }
     ensures known { IfOk result (λ leaf. leaf.known ≡ known) }
-    ensures bound { IfOk result (λ leaf. MatchOption leaf.bound (known.distortion ≤ bound) (λ below. (below ≡ bound) × (bound < known.distortion))) }
+    ensures bound { IfOk result (λ leaf. MatchOption leaf.bound (known.distortion ≤ seen.bound) (λ below. (below ≡ seen.bound) × (seen.bound < known.distortion))) }
+    ensures time { IfOk result (λ leaf. leaf.values.time.parts ≡ UNKNOWN) }
+    ensures seen { IfOk result (λ leaf. leaf.values.seen ≡ seen.kept) }
 {
     let with = BufferWindows::copied(alloc, buffers.as_slice())?;
-    let below = bound_below(bound, known.distortion);
+    let below = bound_below(seen.bound, known.distortion);
     Ok(Leaf {
         node: Node::BufferWindow { with },
         bound: below,
+        values: Values {
+            time: KeptValue::unknown(),
+            seen: seen.kept,
+        },
         known,
     })
 }
 
-/// The leaf with windows of time. Fails only for want of memory.
+/// The leaf with windows of time, which come to what is kept, as those that see the buffers do. Fails only for want of memory.
 fn time_leaf(
     alloc: Global,
     table: &Table,
@@ -280,6 +323,8 @@ fn time_leaf(
     fixed: &Fixed,
     windows: &Windows,
     nodes: u32,
+    time: KeptValue,
+    seen: KeptValue,
 ) -> Result<Leaf, OutOfMemory>
     requires valid { IsValidTable table.now }
     requires known { IsKnown table.now known }
@@ -287,27 +332,24 @@ fn time_leaf(
     requires windows { AreSearched windows.now.items }
     requires few_windows { NODES_WITH_MANY_WINDOWS_MOST < nodes → length windows.now.items ≤ FEW_WINDOWS_MOST }
     requires free { (unit : ℕ) × IsFreeUnit table.now fixed.now unit }
+    requires time { IsTimeKept table.now fixed.now windows.now.items time }
     ensures leaf { IfOk result (IsLeafOn table.now nodes fixed.now known.distortion) }
     ensures floor { IfOk result (λ leaf. IsNoLower (bound_of_value (value_of_windows table.now fixed.now windows.now.items)) leaf.bound) }
+    ensures valued { (seeing : List SeeingWindow) → IsSeenKept table.now fixed.now seeing seen
+        → IfOk result (λ leaf. IsValuedBy table.now seeing fixed.now leaf.node leaf.values) }
 {
     let with = priced_windows(alloc, windows.as_slice())?;
-    let bound = bound_below(bound_on(table, fixed, windows), known.distortion);
+    let own = time_valued(table, fixed, windows, time);
+    let bound = bound_below(own.bound, known.distortion);
     Ok(Leaf {
         node: Node::Window { with },
         bound,
+        values: Values {
+            time: own.kept,
+            seen,
+        },
         known,
     })
-}
-
-/// The bound of windows where these versions are fixed.
-fn bound_on(table: &Table, fixed: &Fixed, windows: &Windows) -> u128
-    requires valid { IsValidTable table.now }
-    requires fixed { FixesVersions table.now fixed.now }
-    requires windows { AreSearched windows.now.items }
-    ensures bound { result ≡ bound_of_value (value_of_windows table.now fixed.now windows.now.items) }
-    ensures most { length windows.now.items ≤ WINDOWS_MOST }
-{
-    bound_of(window_value(table, fixed, windows.as_slice()))
 }
 
 /// A bound below a distortion; none where it isn't.
@@ -338,17 +380,20 @@ fn run_leaf(
     ensures run { run.new.table ≡ table.now }
     ensures leaf { IfOk result (IsLeafOn table.now nodes fixed.now known.distortion) }
     ensures bound { IfOk result (λ leaf. leaf.bound ≡ None) }
+    ensures valued { (seeing : List SeeingWindow) → IfOk result (λ leaf. IsValuedBy table.now seeing fixed.now leaf.node leaf.values) }
 {
     let choice = choice_left(alloc, fixed)?;
     match run.run(&choice) {
         None => Ok(Leaf {
             node: Node::Run { scheduled: true },
             bound: None,
+            values: Values::unknown(),
             known: better(table, known, choice),
         }),
         Some(_miss) => Ok(Leaf {
             node: Node::Run { scheduled: false },
             bound: None,
+            values: Values::unknown(),
             known,
         }),
     }

@@ -24,6 +24,7 @@ mod owed;
 mod owing;
 mod planner;
 mod root;
+mod values;
 
 pub use found::Found;
 pub use planner::{PlanFault, Planned, Search, plan};

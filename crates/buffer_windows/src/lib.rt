@@ -17,5 +17,5 @@ mod windows;
 
 pub use prices::{Charged, Prices, charge_of};
 pub use rooms::{room, stop};
-pub use values::{bound_of_value, bound_of_windows, each_has_left, value_of_windows};
+pub use values::{bound_of_value, bound_of_windows, each_has_left, unit_cost, value_of_windows};
 pub use windows::{BufferWindow, BufferWindows};

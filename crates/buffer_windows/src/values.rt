@@ -211,6 +211,33 @@ fn costs_of_units(
     total
 }
 
+/// What a unit costs at least in some windows, where this version of it is fixed or none is, in 1/47,104 of a distortion. It is one of
+/// the program of this number, whose elementary buffer has so many units of 2,048 bytes. A unit that has no version left costs nothing.
+pub fn unit_cost(
+    slot: u32,
+    windows: &[BufferWindow],
+    program: usize,
+    vbv: u8,
+    unit: &Unit,
+    fixed: Option<u8>,
+) -> u128
+    requires slot { 1 ≤ slot }
+    requires program { program < 8 }
+    requires valid { IsValidUnit slot unit.now }
+    requires names { NamesVersion unit.now fixed }
+    requires priced { ArePriced windows.now }
+    ensures value { result ≡ least_cost slot windows.now (record { program = program; vbv = vbv; unit = unit.now }) fixed }
+    ensures small { result ≤ 2 ^ 80 }
+{
+    let near = Near::nowhere(slot, windows);
+    let owner = Owner {
+        slot,
+        number: program,
+        vbv,
+    };
+    least_cost(unit, fixed, windows, &near, owner)
+}
+
 /// What a unit of a program costs at least, where these of the windows are near.
 fn least_cost(
     unit: &Unit,

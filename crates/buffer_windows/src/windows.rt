@@ -56,12 +56,12 @@ impl BufferWindows {
         self.items.as_slice()
     }
 
-    /// These windows in a list of their own. Fails only for want of memory.
+    /// These windows in a list of their own, which has room for no more. Fails only for want of memory.
     pub fn copied(alloc: Global, windows: &[BufferWindow]) -> Result<BufferWindows, OutOfMemory>
         requires { length windows.now ≤ BUFFER_WINDOWS_MOST }
         ensures { IfOk result (λ copy. copy ≡ windows.now) }
     {
-        let mut items = Vec::new(alloc);
+        let mut items = Vec::with_capacity(alloc, windows.len())?;
         items.extend_from_slice(windows)?;
         Ok(BufferWindows {
             items: ListOf::from_vec(items),

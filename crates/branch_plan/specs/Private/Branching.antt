@@ -7,6 +7,7 @@ use Rattle.version_table.specs.declared.table.Table.{Table}
 use Rattle.dual_bounds.specs.Bounds.{bound_of_value}
 use Rattle.dual_bounds.specs.Fixed.{FixesVersions}
 use Rattle.dual_bounds.specs.Values.{value_of_windows}
+use Rattle.buffer_windows.specs.declared.windows.BufferWindow.{BufferWindow as SeeingWindow}
 use Rattle.bound_certificate.specs.declared.cert.Cert.{Cert}
 use Rattle.bound_certificate.specs.declared.cert.Node.{Node}
 use Rattle.certificate_checker.specs.Checked.{IsAtMost}
@@ -29,6 +30,7 @@ use Rattle.branch_plan.specs.Private.Growth.{ArePaths, AreLinked, IsOrder, IsOrd
 use Rattle.branch_plan.specs.Private.Known.{IsKnown}
 use Rattle.branch_plan.specs.Private.Leaves.{IsFreeUnit, IsLeafOn, MayBranch, MayStand}
 use Rattle.branch_plan.specs.Private.Found.{AreSearchedIn, EachBranchFits, IsFounded, IsNoLower}
+use Rattle.branch_plan.specs.Private.Valued.{AreValued, IsValuedBy}
 
 -- the nodes are one tree, in which each stands once, and the links tell their order and paths
 pub record IsTree (table : Table) (nodes : List Node) (links : List Link) (path : ℕ → List (Option ℕ)) (tree : Forest) : Type 0 where
@@ -73,6 +75,7 @@ pub record IsGrown (table : Table) (most root : ℕ) (nodes : List Node) (links 
 -- a tree, its leaves in a heap, and a choice that is known
 pub record IsGrowth (table : Table) (most : ℕ) (growth : Growth) : Type 0 where
   pub grown : IsGrown table most growth.root growth.arena.nodes.items growth.arena.links.items (heap_items growth.leaves) growth.known.distortion
+  pub valued : AreValued table growth.found.buffers growth.arena.nodes.items grown.path growth.arena.values.items
   pub ordered : IsOrdered (heap_items growth.leaves)
   pub known : IsKnown table growth.known
   pub root : BoundsAll table growth.root
@@ -86,6 +89,7 @@ pub record IsTaken (table : Table) (most : ℕ) (growth : Growth) (bound number 
   pub bound_is : top.0.0 ≡ bound
   pub number_is : top.0.1 ≡ number
   pub grown : IsGrown table most growth.root growth.arena.nodes.items growth.arena.links.items all growth.known.distortion
+  pub valued : AreValued table growth.found.buffers growth.arena.nodes.items grown.path growth.arena.values.items
   pub taken : IsPermutation all (top ∷ heap_items growth.leaves)
   pub least : AllByRecursion (λ other. bound ≤ other.0.0) (heap_items growth.leaves)
   pub below : bound < growth.known.distortion
@@ -173,10 +177,12 @@ pub record IsBranched (table : Table) (most : ℕ) (old growth : Growth) : Type 
   pub found : growth.found ≡ old.found
 
 -- children with one more, a leaf where these versions are fixed
-pub record IsWithChild (table : Table) (most floor : ℕ) (fixed : List (Option ℕ)) (number : ℕ) (children more : Children) : Type 0 where
+pub record IsWithChild (table : Table) (seeing : List SeeingWindow) (most floor : ℕ) (fixed : List (Option ℕ)) (number : ℕ) (children more : Children) : Type 0 where
   pub leaf : Leaf
   pub is : IsLeafOn table most fixed children.known.distortion leaf
   pub no_lower : IsNoLower floor leaf.bound
   pub nodes : more.nodes.items ≡ children.nodes.items ++ leaf.node ∷ []
+  pub values : more.values.items ≡ children.values.items ++ leaf.values ∷ []
+  pub valued : IsValuedBy table seeing fixed leaf.node leaf.values
   pub leaves : IsWith leaf.bound number (heap_items children.leaves) (heap_items more.leaves)
   pub known : more.known ≡ leaf.known

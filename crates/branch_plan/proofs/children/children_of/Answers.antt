@@ -9,8 +9,10 @@ use Rattle.certificate_checker.proofs.Units.{all_zip_size, fixes_one}
 use Rattle.branch_plan.specs.declared.known.Known.{Known}
 use Rattle.branch_plan.specs.Private.Branching.{AreChildren}
 use Rattle.branch_plan.specs.Private.Known.{IsKnown}
+use Rattle.branch_plan.specs.Private.Valued.{AreKept, AreValuedBelow}
 use Rattle.branch_plan.proofs.Reaching.{few_own, reached_child}
 use Rattle.branch_plan.proofs.Stepping.{child_step}
+use Rattle.branch_plan.proofs.Valued.{one_more_value, values_own}
 use Rattle.branch_plan.proofs.children.children_of.Goals as goal
 
 pub with_version-fixed-requires : goal.with_version-fixed-requires
@@ -61,6 +63,22 @@ with_child-requires-clause-floor c =
     reached_child table c.args.asked.nodes place.fixed c.with_version-fixed.result place.unit k c.args.windows.now.items c.in_ok-own.own.items c.args.buffers.now c.args.asked.floor
     c.requires.free low now fixes c.in_ok-own.ensures.value c.requires.floor
 
+pub with_child-requires-clause-values : goal.with_child-requires-clause-values
+with_child-requires-clause-values c =
+    let table = c.args.table.now in
+    let place = c.args.place in
+    let size = all_zip_size NamesVersion (units_of table) place.fixed c.requires.fixed in
+    let now : c.with_version-fixed.result ≡ fix place.unit c.loop-k.k place.fixed = c.with_version-fixed.ensures ∙ c.loop-k.invariant.fixed c.loop-k.k in
+    let more = c.values_with-more.ensures place.fixed c.requires.free.1 size c.requires.values in
+    values_own table c.with_version-fixed.result c.args.windows.now.items c.in_ok-own.own.items c.args.buffers.now c.values_with-more.result c.values_for-own_values.result c.is_cheap-relaxed.result
+    c.in_ok-own.ensures.few c.values_for-own_values.ensures.seen c.values_for-own_values.ensures.time c.values_for-own_values.ensures.own
+    (subst (λ (f : List (Option ℕ)). AreKept table f c.args.windows.now.items c.args.buffers.now c.values_with-more.result) (sym now) more)
+
+pub values_with-more-requires-clause-version : goal.values_with-more-requires-clause-version
+values_with-more-requires-clause-version c =
+    let count = ap (λ (u : CodedUnit). length u.versions.items) c.unit_at.ensures in
+    omega (arith, c.loop-k-test.true, c.len-k-end.ensures.value, count)
+
 pub loop-k-preserved : goal.loop-k-preserved
 loop-k-preserved c =
     let table = c.args.table.now in
@@ -80,9 +98,18 @@ loop-k-preserved c =
       order = c.in_ok-children.ensures.order;
       long = ap length now ∙ length-set place.fixed place.unit (Some k);
       fixed = λ j. ap (fix place.unit j) now ∙ set-set place.fixed place.unit (Some k) (Some j);
-      children = child_step table c.args.asked.nodes c.args.asked.floor place.fixed c.with_version-fixed.result place.unit c.args.first k (c.args.first + k)
+      children = child_step table c.args.buffers.now c.args.asked.nodes c.args.asked.floor place.fixed c.with_version-fixed.result place.unit c.args.first k (c.args.first + k)
           (heap_items c.args.start.leaves) c.loop-k.children c.in_ok-children.children c.loop-k.invariant.children refl now child;
+      valued = one_more_value table c.args.buffers.now place.fixed c.with_version-fixed.result place.unit k c.loop-k.children.nodes.items c.in_ok-children.children.nodes.items c.loop-k.children.values.items
+          c.in_ok-children.children.values.items child.leaf.node child.leaf.values c.loop-k.invariant.children.count c.loop-k.invariant.valued now child.nodes child.values child.valued;
     }
+
+pub returns-clause-values : goal.returns-clause-values
+returns-clause-values c =
+    let table = c.args.table.now in
+    let count = ap (λ (u : CodedUnit). length u.versions.items) c.unit_at.ensures in
+    let all : c.loop-k.k ≡ versions_of table c.args.place.unit = omega (arith, c.loop-k-test.false, c.loop-k.auto.k-end, c.len-k-end.ensures.value, count) in
+    subst (λ (n : ℕ). AreValuedBelow table c.args.buffers.now c.args.place.fixed c.args.place.unit n c.loop-k.children.nodes.items c.loop-k.children.values.items) all c.loop-k.invariant.valued
 
 pub returns-clause-children : goal.returns-clause-children
 returns-clause-children c =

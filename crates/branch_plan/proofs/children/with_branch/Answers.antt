@@ -6,12 +6,13 @@ use Rattle.multiplier_search.specs.Windows.{AreSearched}
 use Rattle.bound_certificate.specs.declared.cert.Node.{Node}
 use Rattle.bound_certificate.specs.declared.cert.Node.TheVariants.{Branch, Open}
 use Rattle.buffer_windows.specs.declared.windows.BufferWindow.{BufferWindow as SeeingWindow}
-use Rattle.multiplier_search.specs.Buffered.{AreSearchedBuffered}
 use Rattle.certificate_checker.specs.Shown.{versions_of}
 use Rattle.branch_plan.specs.Private.Found.{IsReachedAbove, buffers_of, time_of}
 use Rattle.branch_plan.specs.Private.Growth.{node_of}
 use Rattle.branch_plan.specs.Private.Leaves.{MayBranch}
-use Rattle.branch_plan.proofs.Reaching.{buffers_searched, reached_above, time_few, time_searched}
+use Rattle.branch_plan.specs.Private.Valued.{AreKept, values_of}
+use Rattle.branch_plan.proofs.Valued.{buffers_same, kept_for, no_value, valued_as}
+use Rattle.branch_plan.proofs.Reaching.{reached_above, time_few, time_searched}
 use Rattle.certificate_checker.proofs.Units.{few_versions_of}
 use Rattle.std.specs.BinaryHeap.{heap_items}
 use Rattle.branch_plan.specs.Private.Branching.{AreChildren, AreLinkedBehind}
@@ -24,8 +25,31 @@ index-requires c = omega (arith, (place_open c.args.table.now c.args.nodes c.req
 pub index-requires-2 : goal.index-requires-2
 index-requires-2 c = omega (arith, (place_open c.args.table.now c.args.nodes c.requires.place.bound c.args.place.number c.args.growth c.requires.place.taken).within)
 
-pub index-requires-3 : goal.index-requires-3
-index-requires-3 c = omega (arith, (place_open c.args.table.now c.args.nodes c.requires.place.bound c.args.place.number c.args.growth c.requires.place.taken).within)
+pub index-values-requires : goal.index-values-requires
+index-values-requires c =
+    omega (
+      arith,
+      (place_open c.args.table.now c.args.nodes c.requires.place.bound c.args.place.number c.args.growth c.requires.place.taken).within,
+      c.requires.place.taken.valued.as_many,
+    )
+
+pub children_of-requires-clause-values : goal.children_of-requires-clause-values
+children_of-requires-clause-values c =
+    let is = c.requires.place in
+    let table = c.args.table.now in
+    let growth = c.args.growth in
+    let number = c.args.place.number in
+    let seeing = growth.found.buffers in
+    let others = growth.found.time.items in
+    let values = growth.arena.values.items in
+    let own = node_of growth.arena.nodes.items number in
+    let at = place_open table c.args.nodes is.bound number growth is.taken in
+    let node = get_or_read growth.arena.nodes.items number c.index.result.now at.within c.index.ensures Open in
+    let value = get_or_read values number c.index-values.result.now (omega (arith, at.within, is.taken.valued.as_many)) c.index-values.ensures no_value in
+    let kept = kept_for table seeing others c.args.place.fixed own c.index-values.result.now at.may.has
+    (valued_as table seeing c.args.place.fixed (is.taken.grown.path number) own own c.index-values.result.now (values_of values number) is.fixed refl value
+    (is.taken.valued.each number at.within)) in
+    subst (λ (ws : List PricedWindow). AreKept table c.args.place.fixed ws seeing c.index-values.result.now) (sym (c.time_of-windows.ensures ∙ ap (λ (n : Node). time_of n others) node)) kept
 
 pub children_of-requires-clause-fixed : goal.children_of-requires-clause-fixed
 children_of-requires-clause-fixed c =
@@ -54,13 +78,7 @@ children_of-requires-clause-few_windows c =
     )
 
 pub children_of-requires-clause-buffers : goal.children_of-requires-clause-buffers
-children_of-requires-clause-buffers c =
-    let is = c.requires.place in
-    let table = c.args.table.now in
-    let at = place_open table c.args.nodes is.bound c.args.place.number c.args.growth is.taken in
-    let node = get_or_read c.args.growth.arena.nodes.items c.args.place.number c.index-2.result.now at.within c.index-2.ensures Open in
-    subst (λ (ws : List SeeingWindow). AreSearchedBuffered table ws) (sym (c.in_ok-buffers.ensures ∙ ap (λ (n : Node). buffers_of n c.args.growth.found.buffers) node))
-    (buffers_searched table (node_of c.args.growth.arena.nodes.items c.args.place.number) c.args.growth.found.buffers at.searched.1 is.taken.founded.sound.buffers)
+children_of-requires-clause-buffers c = c.requires.place.taken.founded.sound.buffers
 
 pub kept_bound-requires-clause-time : goal.kept_bound-requires-clause-time
 kept_bound-requires-clause-time c = c.requires.place.taken.founded.least
@@ -74,12 +92,12 @@ children_of-requires-clause-floor c =
     let at = place_open table c.args.nodes is.bound place.number growth is.taken in
     let own = node_of growth.arena.nodes.items place.number in
     let first = get_or_read growth.arena.nodes.items place.number c.index.result.now at.within c.index.ensures Open in
-    let second = get_or_read growth.arena.nodes.items place.number c.index-2.result.now at.within c.index-2.ensures Open in
     let windows_are : c.time_of-windows.result.items ≡ time_of own growth.found.time.items = c.time_of-windows.ensures ∙ ap (λ (n : Node). time_of n growth.found.time.items) first in
-    let buffers_are : c.in_ok-buffers.buffers ≡ buffers_of own growth.found.buffers = c.in_ok-buffers.ensures ∙ ap (λ (n : Node). buffers_of n growth.found.buffers) second in
+    let buffers_are : buffers_of own growth.found.buffers ≡ growth.found.buffers =
+    buffers_same table growth.found.buffers (is.taken.grown.path place.number) own (values_of growth.arena.values.items place.number) (is.taken.valued.each place.number at.within) in
     let may = subst (λ (f : List (Option ℕ)). MayBranch table f own is.bound) (sym is.fixed) at.may in
     let fixes = subst (λ (f : List (Option ℕ)). FixesVersions table f) (sym is.fixed) (is.taken.grown.is.fixes place.number at.within) in
-    subst (λ (bs : List SeeingWindow). IsReachedAbove table c.args.nodes place.fixed place.unit c.time_of-windows.result.items bs c.kept_bound.result) (sym buffers_are)
+    subst (λ (bs : List SeeingWindow). IsReachedAbove table c.args.nodes place.fixed place.unit c.time_of-windows.result.items bs c.kept_bound.result) buffers_are
     (subst (λ (ws : List PricedWindow). IsReachedAbove table c.args.nodes place.fixed place.unit ws (buffers_of own growth.found.buffers) c.kept_bound.result) (sym windows_are)
     (reached_above table c.args.nodes place.fixed place.unit own growth.found is.bound growth.root c.kept_bound.result growth.time fixes may (is.taken.grown.each place.number at.within)
     at.at_least c.kept_bound.ensures.most is.taken.founded.time_is c.kept_bound.ensures.other))
@@ -117,5 +135,6 @@ returns-clause-branched c =
     let linked : AreLinkedBehind place.number place.unit versions growth.arena.links.items c.link_children.new.links.items =
     subst (λ (n : ℕ). AreLinkedBehind place.number place.unit n growth.arena.links.items c.link_children.new.links.items) count_is c.in_ok-link_children.ensures in
     let nodes_is : c.append.new.self.items ≡ set nodes place.number (Branch place.unit) ++ children.nodes.items = search rules in
-    branched_growth table c.args.nodes growth _ place children.nodes.items growth.arena.links.items is kids linked
-    c.in_ok-made.ensures.known c.in_ok-made.ensures.kept c.in_ok-made.ensures.order nodes_is c.kept_bound.ensures.most c.kept_bound.ensures.least c.kept_bound.ensures.fits refl refl
+    let values_is : c.append-2.new.self.items ≡ growth.arena.values.items ++ children.values.items = search rules in
+    branched_growth table c.args.nodes growth _ place children.nodes.items children.values.items growth.arena.links.items is kids linked
+    c.in_ok-made.ensures.known c.in_ok-made.ensures.kept c.in_ok-made.ensures.order nodes_is c.in_ok-made.ensures.values values_is c.kept_bound.ensures.most c.kept_bound.ensures.least c.kept_bound.ensures.fits refl refl
