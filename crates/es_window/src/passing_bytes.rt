@@ -1,4 +1,4 @@
-ghost use Rattle.std.specs.Prelude.{◌≡◌, ℕ, ◌<◌, ◌≤◌, ◌^◌, ◌+◌, ◌++◌, ◌⊎◌, List, [], map, slice_get, length, true, false, Option, Some, Ok, IfErr, IfNone, IfOk, IfSome, OnOk, IsErrOf};
+ghost use Rattle.std.specs.Prelude.{◌≡◌, ℕ, ◌<◌, ◌≤◌, ◌^◌, ◌+◌, ◌-◌, ◌++◌, ◌⊎◌, List, [], map, slice_get, length, min, true, false, Option, Some, Ok, IfErr, IfNone, IfOk, IfSome, OnOk, IsErrOf};
 ghost use Rattle.shelf_io.specs.Causes.{SourceCauses};
 ghost use Rattle.shelf_io.specs.Source.{source_bytes_most};
 ghost use Rattle.ts_demux.specs.declared.pass_fault.PassFault.TheVariants.{Outside};
@@ -108,7 +108,7 @@ impl PassingBytes {
         ensures read { (left left_after : Option (List ℕ)) (most most_after : ℕ) (held : List ℕ) → HasRead left left_after most most_after held self.old →
             HasRead left left_after most most_after held self.new }
         ensures same { (read_pids self.new ≡ read_pids self.old) × (read_index self.new ≡ read_index self.old) × (part_read self.new ≡ part_read self.old) }
-        ensures from { window_from self.old.window ≤ to → window_from self.new.window ≤ to }
+        ensures from { window_from self.new.window ≡ window_from self.old.window + min (to - window_from self.old.window) (length (window_bytes self.old.window)) }
     {
         self.window.pass(to);
     }
