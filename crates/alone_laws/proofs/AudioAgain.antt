@@ -15,8 +15,7 @@ use Rattle.program_reader.specs.declared.program.AudioPiece.{AudioPiece}
 use Rattle.program_reader.specs.declared.program.AudioSource.{AudioSource}
 use Rattle.program_reader.specs.Audio.{AreAudioSources, ArePieces, HaveFrames, IsAudioSource, IsDue, IsPiece, packet_size, piece_size, placed_pieces, time_of_byte}
 use Rattle.program_table.proofs.AudioTimes.{Follow, Reach, first_byte, follow-of, last_byte, reach-of, time_from}
-use Rattle.time_laws.proofs.Audios.{AllTaken, WhereverItStands}
-use Rattle.audit_laws.proofs.Axis.{placed-same}
+use Rattle.time_laws.proofs.Audios.{AllTaken, WhereverItStands, placed-same}
 
 -- ---- times from the earliest one on
 

@@ -17,6 +17,7 @@ use Rattle.unit_laws.proofs.Codes.{Code, CodeOf, code-has, has-code, not-code}
 use Rattle.program_reader.specs.PictureTimes.{is_first_picture_in, no_times, times_at, times_of_unit}
 use Rattle.program_reader.proofs.PlaceLemmas.{found_from}
 use Rattle.alone_laws.proofs.UnitPictures.{HasPicture}
+use Rattle.layer_laws.proofs.CodesAtSeams.{same_code}
 
 -- ---- a unit's end
 
@@ -74,16 +75,11 @@ pub record StandsIn (es : List ℕ) (o : ℕ) (unit : List ℕ) : Type 0 where
   pub first : get_or es (o + length unit) 0 ≡ 0
   pub second : get_or es (o + length unit + 1) 0 ≡ 0
 
--- the same four bytes, the same code
-same-code : (test : ℕ → Bool) (a b : List ℕ) (p q : ℕ) → nat_lt (p + 3) (length a) ≡ nat_lt (q + 3) (length b) → slice_index a p ≡ slice_index b q
-    → slice_index a (p + 1) ≡ slice_index b (q + 1) → slice_index a (p + 2) ≡ slice_index b (q + 2) → slice_index a (p + 3) ≡ slice_index b (q + 3) → has_code test a p ≡ has_code test b q
-same-code test a b p q within first second third value = rw (within, first, second, third, value) refl
-
 pub stands-in : (es front unit rest : List ℕ) (o : ℕ) → es ≡ front ++ (unit ++ rest) → o ≡ length front → (get_or rest 0 0 ≡ 0) × (get_or rest 1 0 ≡ 0)
     → ((k : ℕ) → k < o → o < k + 8 → has_code (λ value. value == GROUP) es k ≡ false) → StandsIn es o unit
 stands-in es front unit rest o is at low apart = record {
   codes = λ test p inside.
-      same-code test es unit (o + p) p (lt-ltb (o + p + 3) (length es) (omega (arith, size, at, inside)) ∙ sym (lt-ltb (p + 3) (length unit) inside)) (own p (omega (arith, inside)))
+      same_code test es unit (o + p) p (lt-ltb (o + p + 3) (length es) (omega (arith, size, at, inside)) ∙ sym (lt-ltb (p + 3) (length unit) inside)) (own p (omega (arith, inside)))
       (next p 1 (omega (arith, inside))) (next p 2 (omega (arith, inside))) (next p 3 inside);
   behind = apart;
   first = later 0 (o + length unit) (omega arith) ∙ low.0;

@@ -7,7 +7,7 @@ use Rattle.std.proofs.lemmas.List.Elements.{All-cons, All-get_or, All-nil}
 use Rattle.std.proofs.lemmas.List.Folds.{flat_map-map}
 use Rattle.std.proofs.lemmas.Option.{slice_get-get_or}
 use Rattle.bit_lists.specs.Fields.{AreBytes}
-use Rattle.bit_lists.proofs.ByteLemmas.{AreBytes-append, AreBytes-take}
+use Rattle.bit_lists.proofs.ByteLemmas.{AreBytes-append, AreBytes-take, AreBytes-drop}
 use Rattle.syntax_types.specs.declared.picture.Picture.{Picture}
 use Rattle.syntax_types.specs.declared.picture.SeqState.{SeqState}
 use Rattle.pes_units.specs.PesHeader.{header_length}
@@ -27,7 +27,7 @@ use Rattle.version_maker.specs.Versions.{AreVersions, IsCoarserVersion, IsSource
 use Rattle.version_source.specs.Sendable.{bytes_of_unit}
 use Rattle.version_source.specs.Versions.{AreVideoVersions, chosen_bytes}
 use Rattle.unit_laws.specs.WholeVersions.{AreWholeVersions, IsWholeVersion}
-use Rattle.unit_laws.proofs.WholeVersions.{AreBytes-behind, AreBytes-drop}
+use Rattle.unit_laws.proofs.WholeVersions.{AreBytes-behind}
 use Rattle.parsing_laws.specs.Parsed.{AreReadAs, SentUnit, bytes_of_packets, joined_payloads}
 use Rattle.job_laws.proofs.SentUnits.{chosen-is, no_version}
 use Rattle.job_laws.specs.ParsesTo.{sent_units}

@@ -22,6 +22,7 @@ use Rattle.slot_rule.proofs.Places.{All-at_place}
 use Rattle.slot_rule.proofs.RuleFronts.{by_push}
 use Rattle.slot_rule.proofs.RuleRows.{IsNext, FollowRule-front, FollowRule-last}
 use Rattle.slot_rule.proofs.RuleSent.{outstanding-sent, packet_of, packet_of-carried, packet_of-other, packets_sent, packets_sent-push, payload_after}
+use Rattle.slot_rule.proofs.RuleUnits.{piece_of}
 use Rattle.tstd_bridge.proofs.AudioTimes.{NoMiss-front, all_sent, sent_early}
 
 -- ---- when packets are gone
@@ -172,16 +173,13 @@ module _ (table : Table) (choice : List ℕ) (stream program vbv : ℕ) (packets
 
 -- ---- units
 
-abbrev packet_of_unit : (item due : ℕ) → (piece payload : ℕ) → QueuedPacket
-packet_of_unit item due piece payload = record { item = item; piece = piece; payload = payload; due = due; gone = due }
-
 pieces-sum : (item due piece full last : ℕ)
-    → sum_by (payload_at due) (map (λ (n, payload). packet_of_unit item due n payload) (enumerate_from piece (replicate full 184 ++ last ∷ []))) ≡ 184 * full + last
+    → sum_by (payload_at due) (map (λ (n, payload). piece_of item due n payload) (enumerate_from piece (replicate full 184 ++ last ∷ []))) ≡ 184 * full + last
 pieces-sum item due piece zero last =
-    sum_by-cons (payload_at due) (packet_of_unit item due piece last) [] ∙ omega (arith, own-payload due (packet_of_unit item due piece last) refl)
+    sum_by-cons (payload_at due) (piece_of item due piece last) [] ∙ omega (arith, own-payload due (piece_of item due piece last) refl)
 pieces-sum item due piece (suc full) last =
-    sum_by-cons (payload_at due) (packet_of_unit item due piece 184) (map (λ (n, payload). packet_of_unit item due n payload) (enumerate_from (piece + 1) (replicate full 184 ++ last ∷ [])))
-    ∙ omega (arith, own-payload due (packet_of_unit item due piece 184) refl, pieces-sum item due (piece + 1) full last)
+    sum_by-cons (payload_at due) (piece_of item due piece 184) (map (λ (n, payload). piece_of item due n payload) (enumerate_from (piece + 1) (replicate full 184 ++ last ∷ [])))
+    ∙ omega (arith, own-payload due (piece_of item due piece 184) refl, pieces-sum item due (piece + 1) full last)
 
 unit-sum : (item due bytes : ℕ) → sum_by (payload_at due) (unit_packets item due bytes) ≡ bytes
 unit-sum item due bytes = pieces-sum item due 0 ((bytes - 1) / 184) (bytes - 184 * ((bytes - 1) / 184)) ∙ omega arith
@@ -210,7 +208,7 @@ abbrev pub AreDueBy : ℕ → List (CodedUnit × ℕ) → Type 0
 AreDueBy by [] = Unit {0}
 AreDueBy by (pair ∷ pairs) = (pair.0.due ≤ by) × AreDueBy by pairs
 
-first-gone : (by item due piece full last : ℕ) → AreGoneBy by (map (λ (n, payload). packet_of_unit item due n payload) (enumerate_from piece (replicate full 184 ++ last ∷ []))) → due ≤ by
+first-gone : (by item due piece full last : ℕ) → AreGoneBy by (map (λ (n, payload). piece_of item due n payload) (enumerate_from piece (replicate full 184 ++ last ∷ []))) → due ≤ by
 first-gone by item due piece zero last are = are.0
 first-gone by item due piece (suc full) last are = are.0
 

@@ -13,13 +13,8 @@ use Rattle.stream_audit.specs.declared.audit_stop.AuditStop.{AuditStop}
 use Rattle.stream_audit.specs.declared.audit_stop.AuditStop.TheVariants as stops
 use Rattle.stream_audit.specs.declared.file_clock.FoundClock.{FoundClock}
 use Rattle.stream_audit.specs.Clock.{IsClockOf}
-use Rattle.stream_audit.proofs.OneAudit.{known_of, Known, sound_or_places}
+use Rattle.stream_audit.proofs.OneAudit.{known_of, Known, sound_or_places, clock_or_stop}
 use Rattle.stream_audit.specs.Refusals.{AreTablesSound, IsClockStopped, IsProgramRead, IsProgramStopped, IsSystemFault, stop_of_demux}
-
-clock-known : (file : List ℕ) (slot pid : ℕ) (clock : FoundClock) (stop : AuditStop) → stop ≢ stops.OutOfMemory → IsClockOf file slot pid clock → IsClockStopped file slot pid stop → ⊥
-clock-known file slot pid clock stop some is (IsClockStopped.no_pid none e) = is.known none
-clock-known file slot pid clock stop some is (IsClockStopped.bad_packet fault pid_is bad e) = sound_or_places file pid fault (known_of stop fault some e) is.sound bad
-clock-known file slot pid clock stop some is (IsClockStopped.no_reference pid_is sound none e) = let both : None ≡ Some clock.zero = sym none ∙ is.zero_is in cc
 
 tables-known : (file : List ℕ) (program : ℕ) (demuxed : Demuxed) (map_pid pid : ℕ) (fault : DemuxFault) → Known fault → AreTablesSound file program demuxed map_pid
     → IsMapPid file program pid → IsSystemFault file pid fault → ⊥
@@ -39,4 +34,4 @@ never-stopped file program slot demuxed map_pid clock stop some read (IsProgramS
     tables-known file program demuxed map_pid pid fault (known_of stop fault some e) read.tables is bad
 never-stopped file program slot demuxed map_pid clock stop some read (IsProgramStopped.no_clock other pid tables stopped) =
     let same : other ≡ demuxed = one_demuxed file program [] other demuxed tables.taken_out read.tables.taken_out in
-    clock-known file slot demuxed.map.pcr_pid clock stop some read.clock_is (subst (λ (d : Demuxed). IsClockStopped file slot d.map.pcr_pid stop) same stopped)
+    clock_or_stop file slot demuxed.map.pcr_pid clock stop some read.clock_is (subst (λ (d : Demuxed). IsClockStopped file slot d.map.pcr_pid stop) same stopped)

@@ -106,7 +106,8 @@ module _ (src : List ℕ) (packets_of_src : List PlacedPacket) (base : ℕ) (es 
           (finds-picture es o (pes_payload_of x) there unit.pictured)
 
   pub in-order-again : (front : List ℕ) (o : ℕ) (done : List PlacedPacket) (earlier read : List TimedPicture) (sent : List DecodedPicture) (kept : List (ℕ × ℕ)) (pictures : List TimedPicture)
-      (units : List UnitSource) (packets : List PesUnit) → es ≡ front ++ joined packets → o ≡ length front → all ≡ done ++ placed_from o packets → EndBy o done → ((k : ℕ) → k < o → o < k + 8 → has_code (λ value. value == GROUP) es k ≡ false)
+      (units : List UnitSource) (packets : List PesUnit) → es ≡ front ++ joined packets → o ≡ length front → all ≡ done ++ placed_from o packets → EndBy o done
+      → ((k : ℕ) → k < o → o < k + 8 → has_code (λ value. value == GROUP) es k ≡ false)
       → AreSentUnits packets → AreAgain earlier read → option_map (λ (e : DecodedPicture). e.seq) (nearest sent) ≡ state_behind (nearest earlier)
       → AreInOrder src packets_of_src earlier kept pictures → AreDecoded base sent packets (all_outgoing pictures units) → AreStated pictures packets
       → AreInOrder es all read (placed_units o (map pes_payload_of packets)) (all_again pictures packets)

@@ -21,7 +21,7 @@ use audit_command::laws::audits_stop_before_streams;
 use audit_laws::laws::{audio_is_clean, clock_is_read, sections_are_clean, video_is_clean};
 use job_laws::programs::programs_are_read_back;
 use job_laws::streams::slots_are_rows;
-use job_programs::laws::lone_program_has_one_answer;
+use job_programs::laws::{lone_program_has_one_answer, programs_of_contents_are_read};
 use job_stream::laws::stream_has_slots;
 use layer_laws::packets::counted_payloads_are_carried;
 use layer_laws::pes::audio_packet_wherever_it_stands;
@@ -53,6 +53,7 @@ pub fn written_programs_pass()
     schedules_are_clean();
     removals_when_wanted_are_allowed();
     stream_has_slots();
+    programs_of_contents_are_read();
     stream_carries_its_times();
     programs_are_read_back();
     slots_are_rows();

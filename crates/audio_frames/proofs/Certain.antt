@@ -24,7 +24,8 @@ use Rattle.audio_frames.specs.Private.Steps.{NoneBefore, IsEnded, IsPlaceRefused
 use Rattle.audio_frames.proofs.Chains.{frames_front, some_frame, apart_later}
 use Rattle.audio_frames.proofs.Following.{rest_behind}
 use Rattle.audio_frames.proofs.Formats.{index_small, kept_rate}
-use Rattle.audio_frames.proofs.Places.{no_place, found_passes, found_least, none_passes}
+use Rattle.list_types.proofs.Search.{find_none}
+use Rattle.audio_frames.proofs.Places.{found_passes, found_least, none_passes}
 use Rattle.audio_frames.proofs.Rests.{first_behind}
 use Rattle.audio_frames.proofs.Stepping.{frames_grown}
 
@@ -101,7 +102,7 @@ rest_size payload kept at rest = omega (arith, rest.0, length-drop at payload, a
 
 pub none_found : (payload kept : List ℕ) (at : ℕ) → NoneBefore payload at → IsRestOf payload at kept → first_frame kept ≡ None → first_frame payload ≡ None
 none_found payload kept at none rest is =
-    no_place (is_first payload) (length payload) 0
+    find_none (is_first payload) (length payload) 0
     (λ k low high. none_now payload kept at (length kept) none rest (λ j lt. none_passes (is_first kept) (length kept) 0 is j (omega arith) (omega (arith, lt))) k
     (omega (arith, high, rest_size payload kept at rest)))
 

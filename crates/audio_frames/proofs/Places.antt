@@ -3,12 +3,6 @@ use Rattle.std.proofs.Common.{◌≡◌, ℕ, zero, suc, ◌+◌, ◌<◌, ◌�
 use Rattle.std.specs.List.{find, range_with_len}
 use Rattle.std.proofs.lemmas.Bool.{cases_eq}
 
-pub no_place : (test : ℕ → Bool) (n from : ℕ) → ((at : ℕ) → from ≤ at → at < from + n → test at ≡ false) → find test (range_with_len from n) ≡ None
-no_place test zero from none = refl
-no_place test (suc n) from none =
-    let here : test from ≡ false = none from (omega arith) (omega arith) in
-    rw here (no_place test n (from + 1) (λ at b u. none at (omega arith) (omega arith)))
-
 -- what is found passes, and is one of those looked at
 pub found_passes : (test : ℕ → Bool) (n from found : ℕ) → find test (range_with_len from n) ≡ Some found → (test found ≡ true) × (found < from + n)
 found_passes test zero from found is = absurd (cc)

@@ -17,7 +17,7 @@ use Rattle.stream_audit.specs.Refusals.{IsAuditStopped}
 use Rattle.command_words.specs.declared.ended.Ended.{Ended}
 use Rattle.command_words.specs.declared.status.Status.TheVariants.{Ok, SourceRefused, AuditFault}
 use Rattle.command_words.specs.Ended.{EndsBy, Performs, answer_of}
-use Rattle.command_words.specs.Outside.{ShelfFacts}
+use Rattle.shelf_io.specs.Facts.{ShelfFacts}
 use Rattle.command_words.specs.Task.{AsksOnly}
 use Rattle.command_words.proofs.Counted.{asks_one}
 use Rattle.command_words.proofs.Performed.{performs_uncalled, wants_uncalled}

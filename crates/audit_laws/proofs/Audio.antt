@@ -5,7 +5,7 @@ use Rattle.std.proofs.Common.{length-append, ℤ, pos, negsuc, ◌+ℤ◌, ◌-�
 use Rattle.std.specs.List.{AllZip, enumerate_from, flat_map, range_with_len, sum_by}
 use Rattle.std.specs.List.Sorted.{IsNonDecreasing}
 use Rattle.std.proofs.lemmas.Int.{ints}
-use Rattle.std.proofs.lemmas.List.{length-drop, length-map, length-replicate}
+use Rattle.std.proofs.lemmas.List.{length-drop, length-map, length-replicate, nil_from_length}
 use Rattle.std.proofs.lemmas.List.Concat.{length-flat_map}
 use Rattle.std.proofs.lemmas.List.Elements.{All-cons, All-head, All-nil, All-tail}
 use Rattle.std.proofs.lemmas.List.FromFn.{length-range_with_len}
@@ -61,7 +61,7 @@ use Rattle.audit_laws.specs.Kept.{IsBegun}
 use Rattle.audit_laws.proofs.Brought.{AreWholeHeaders, all-taken, cut-bytes, cut-some, cut_at_starts, flow, flow-brought, gathered-are, header_left, queued-bytes, taken-less}
 use Rattle.audit_laws.proofs.Found.{found-on}
 use Rattle.audit_laws.proofs.Frames.{IsValueOf, RiseAlong, StandFrom, along-frames, counted-mount, counted-within, counted_places, piece_bytes, pieces-cover, pieces-gone, pieces-wanted, removed-by}
-use Rattle.audit_laws.proofs.Gathered.{before-is, front, none-there, of-map, plain_parts, whole-parts}
+use Rattle.audit_laws.proofs.Gathered.{before-is, front, of-map, plain_parts, whole-parts}
 use Rattle.audit_laws.proofs.Headers.{fault-there}
 use Rattle.audit_laws.proofs.Places.{PacketLaws, carried-are, places-are, places_by}
 
@@ -297,7 +297,7 @@ module _ (laws : PacketLaws) (file : List ℕ) (list : List PacketRecord) (audio
           omega (arith, rest, one, other)
 
   nothing-before : front (payloads_on audio.pid list) ≡ []
-  nothing-before = none-there (front (payloads_on audio.pid list))
+  nothing-before = nil_from_length (front (payloads_on audio.pid list))
       (let cut = cut-bytes (payloads_on audio.pid list) in let less = taken-less audio.units in omega (arith, cut, less, all-bytes, unit-bytes))
 
   -- so none of them is dropped

@@ -1,13 +1,11 @@
 -- The audio packets of a program's row are due and gone on one axis with its first picture: as much later than that is decoded as their frames are later than it states.
-use Rattle.std.proofs.Common.{◌≡◌, ℕ, zero, suc, ◌+◌, ◌*◌, Bool, true, false, if◌then◌else◌, List, [], ◌∷◌, ◌++◌, length, map, drop, Option, Some, None, refl, sym, ap, subst, ◌∙◌, ℤ, pos, ◌+ℤ◌, ◌-ℤ◌, ◌*ℤ◌, arith}
+use Rattle.std.proofs.Common.{◌≡◌, ℕ, zero, suc, ◌+◌, ◌*◌, List, [], ◌∷◌, ◌++◌, length, map, drop, Option, Some, None, refl, sym, ap, subst, ◌∙◌, ℤ, pos, ◌+ℤ◌, ◌-ℤ◌, ◌*ℤ◌, arith}
 use Rattle.std.specs.Prelude.{slice_get}
 use Rattle.std.specs.List.{AllZip, flat_map}
 use Rattle.std.proofs.lemmas.Int.{ints}
 use Rattle.std.proofs.lemmas.Option.{none-some, same_Some}
 use Rattle.audio_frames.specs.declared.frame.Frame.{Frame}
 use Rattle.syntax_types.specs.declared.picture.SeqState.{SeqState}
-use Rattle.pes_units.specs.PesHeader.{header_length, pes_fields_of}
-use Rattle.pes_units.specs.PesPackets.{is_dropped, packet_refusal}
 use Rattle.pes_units.specs.Times.{decoding_time}
 use Rattle.version_table.specs.declared.table.AudioPacket.{AudioPacket}
 use Rattle.version_table.specs.declared.table.ProgramRow.{ProgramRow}
@@ -19,7 +17,7 @@ use Rattle.ts_demux.specs.declared.demuxed.PesUnit.{PesUnit}
 use Rattle.ts_demux.specs.Demux.{IsDemuxed}
 use Rattle.elementary_streams.specs.declared.pes_packets.PlacedPacket.{PlacedPacket}
 use Rattle.elementary_streams.specs.Audio.{HasFrames, taken_of}
-use Rattle.elementary_streams.specs.Packets.{AreSound, pes_payload_of, placed_from, taken}
+use Rattle.elementary_streams.specs.Packets.{placed_from}
 use Rattle.job_report.specs.declared.job.ProgramJob.{ProgramJob}
 use Rattle.program_reader.specs.declared.program.AudioPiece.{AudioPiece}
 use Rattle.program_reader.specs.declared.program.AudioSource.{AudioSource}
@@ -40,7 +38,7 @@ use Rattle.job_stream.proofs.NamedVersions.{unit_rows-count}
 use Rattle.job_laws.specs.ParsesTo.{ParsesTo, ParsesToProgram, sent_units}
 use Rattle.job_laws.proofs.SentStreams.{fits-behind}
 use Rattle.time_laws.specs.Video.{BeginAt}
-use Rattle.time_laws.proofs.Audios.{AllTaken, AreTaken, WhereverItStands, all-taken, have-frames-again}
+use Rattle.time_laws.proofs.Audios.{AllTaken, WhereverItStands, all-taken, have-frames-again, placed-same}
 use Rattle.time_laws.proofs.Programs.{OneDemuxed}
 use Rattle.time_laws.proofs.Videos.{read-time}
 
@@ -68,43 +66,6 @@ pub record HasAxis (file : List ℕ) (number : ℕ) (row : ProgramRow) : Type 0 
   pub later : List ℕ
   pub dues : map (λ (unit : CodedUnit). unit.due) row.units ≡ at ∷ later
   pub audios : AreOnAxis begin at demuxed.audios row.audios
-
--- ---- where PES packets stand, by their bytes alone
-
-placed_bytes : ℕ → List (List ℕ) → List PlacedPacket
-placed_bytes from [] = []
-placed_bytes from (bytes ∷ more) =
-    record { from = from; end = from + length (drop (header_length bytes) bytes); header = pes_fields_of bytes } ∷ placed_bytes (from + length (drop (header_length bytes) bytes)) more
-
-placed-by : (from : ℕ) (packets : List PesUnit) → placed_from from packets ≡ placed_bytes from (bytes_of_packets packets)
-unfolding placed_bytes
-placed-by from [] = refl
-placed-by from (p ∷ ps) =
-    ap (λ (rest : List PlacedPacket). record { from = from; end = from + length (pes_payload_of p); header = pes_fields_of p.bytes } ∷ rest) (placed-by (from + length (pes_payload_of p)) ps)
-
-abbrev AreWhole : List (List ℕ) → Type 0
-AreWhole [] = Unit {0}
-AreWhole (bytes ∷ more) = (packet_refusal false bytes ≡ None) × AreWhole more
-
-taken-whole : WhereverItStands → (packets : List PesUnit) → AreSound false packets → AreWhole (bytes_of_packets (taken false packets))
-taken-whole law [] sound = tt
-taken-whole law (p ∷ []) sound = by_test (is_dropped false p.bytes) refl
-  where
-    by_test : (dropped : Bool) → is_dropped false p.bytes ≡ dropped → AreWhole (bytes_of_packets (let xs : List PesUnit = if dropped then [] else p ∷ [] in xs))
-    by_test true is = tt
-    by_test false is = ((law p.bytes).1 (sound.0, is), tt)
-taken-whole law (p ∷ q ∷ ps) sound = (sound.0, taken-whole law (q ∷ ps) sound.1)
-
-whole-taken : WhereverItStands → (packets : List PesUnit) → AreWhole (bytes_of_packets packets) → taken false packets ≡ packets
-whole-taken law [] whole = refl
-whole-taken law (p ∷ []) whole = ap (λ (dropped : Bool). let xs : List PesUnit = if dropped then [] else p ∷ [] in xs) ((law p.bytes).0 whole.0).1
-whole-taken law (p ∷ q ∷ ps) whole = ap (λ (rest : List PesUnit). p ∷ rest) (whole-taken law (q ∷ ps) whole.1)
-
--- those of a stream stand where those of the file stand that are taken
-pub placed-same : WhereverItStands → (out from : AudioStream) → AreSound false from.units → AreTaken out from → placed_from 0 (taken_of out) ≡ placed_from 0 (taken_of from)
-placed-same law out from sound same =
-    let whole : AreWhole (bytes_of_packets out.units) = subst AreWhole (sym same) (taken-whole law from.units sound) in
-    ap (placed_from 0) (whole-taken law out.units whole) ∙ placed-by 0 out.units ∙ ap (placed_bytes 0) same ∙ sym (placed-by 0 (taken_of from))
 
 -- ---- from one tick on the axis to another
 

@@ -280,7 +280,10 @@ all-taken [] some all = refl
 all-taken (p ∷ []) some all = by_test (is_dropped false p.bytes) all
   where
     by_test : (dropped : Bool) → bytes_in (p ∷ []) ≤ bytes_in (cond dropped [] (p ∷ [])) → cond dropped [] (p ∷ []) ≡ p ∷ []
-    by_test true all = absurd (let own : 0 < length p.bytes = All-head (λ (p : PesUnit). 0 < length p.bytes) p [] some in let sum = sum_by-cons (λ (u : PesUnit). length u.bytes) p [] in omega (arith, own, all, sum))
+    by_test true all = absurd
+        (let own : 0 < length p.bytes = All-head (λ (p : PesUnit). 0 < length p.bytes) p [] some in
+        let sum = sum_by-cons (λ (u : PesUnit). length u.bytes) p [] in
+        omega (arith, own, all, sum))
     by_test false all = refl
 all-taken (p ∷ q ∷ ps) some all =
     ap (λ (rest : List PesUnit). p ∷ rest)

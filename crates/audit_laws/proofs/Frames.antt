@@ -212,7 +212,8 @@ below-headers : (end n from : ℕ) → from < end → All (λ (place : ℕ). pla
 below-headers end zero from within = All-nil (λ (place : ℕ). place < end)
 below-headers end (suc n) from within = All-cons (λ (place : ℕ). place < end) from (replicate n from) within (below-headers end n from within)
 
-pub counted-within : (at end : ℕ) (packets : List PlacedPacket) → StandFrom at packets end → All (λ (p : PlacedPacket). p.from < p.end) packets → All (λ (place : ℕ). place < end) (counted_places packets)
+pub counted-within : (at end : ℕ) (packets : List PlacedPacket) → StandFrom at packets end → All (λ (p : PlacedPacket). p.from < p.end) packets
+    → All (λ (place : ℕ). place < end) (counted_places packets)
 counted-within at end [] stand some = All-nil (λ (place : ℕ). place < end)
 counted-within at end (p ∷ ps) stand some =
     let order : p.end ≤ end = stand-order p.end ps end stand.2 in
@@ -233,7 +234,8 @@ removed-by value removal end packets [] stand due bytes within = refl
 removed-by value removal end packets (f ∷ fs) stand due bytes within =
     let inside : f.at + f.len ≤ end = All-head (λ (frame : Frame). frame.at + frame.len ≤ end) f fs within in
     let counted = counted-in f 0 end packets stand in
-    let own : (removal f).bytes ≡ count_by (lies_in f) (counted_places packets) = bytes f ∙ (let e : f.len + header_bytes_in f packets ≡ count_by (lies_in f) (counted_places packets) = omega (arith, counted, inside) in e) in
+    let own : (removal f).bytes ≡ count_by (lies_in f) (counted_places packets) =
+    bytes f ∙ (let e : f.len + header_bytes_in f packets ≡ count_by (lies_in f) (counted_places packets) = omega (arith, counted, inside) in e) in
     ap₂ (λ (xs ys : List ℕ). xs ++ ys) (ap₂ (λ (n at : ℕ). replicate n at) own (due f))
     (removed-by value removal end packets fs stand due bytes (All-tail (λ (frame : Frame). frame.at + frame.len ≤ end) f fs within))
 
@@ -260,7 +262,8 @@ payload-places packet from (suc n) behind =
     (payload-places packet (from + 1) n (omega (arith, behind))
     ∙ ap (λ (k : ℕ). range_with_len k n) (let e : packet.from + (from + 1 - packet.header.len) ≡ packet.from + (from - packet.header.len) + 1 = omega (arith, behind) in e))
 
-own-places : (packet : PlacedPacket) → map (payload_place packet) (range_with_len 0 (packet_size packet)) ≡ replicate packet.header.len packet.from ++ range_with_len packet.from (packet.end - packet.from)
+own-places : (packet : PlacedPacket) → map (payload_place packet) (range_with_len 0 (packet_size packet))
+    ≡ replicate packet.header.len packet.from ++ range_with_len packet.from (packet.end - packet.from)
 own-places packet =
     ap (map (payload_place packet)) (range-append 0 packet.header.len (packet.end - packet.from))
     ∙ map-append (payload_place packet) (range_with_len 0 packet.header.len) (range_with_len (0 + packet.header.len) (packet.end - packet.from))

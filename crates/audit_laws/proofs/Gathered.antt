@@ -176,8 +176,3 @@ before-is pid from (packet ∷ more) = by_tests (packet.pid == pid) packet.start
     by_tests true true false is starts has rest = rw (is, starts, has) (ap₂ (λ (x y : ℕ). x + y) (none packet.payload has) rest ∙ no-more)
     by_tests true false false is starts has rest = rw (is, starts, has) (ap₂ (λ (x y : ℕ). x + y) (none packet.payload has) rest ∙ no-more)
     by_tests false start some is starts has rest = rw is rest
-
--- a list without items
-pub none-there : (xs : List ℕ) → length xs ≡ 0 → xs ≡ []
-none-there [] is = refl
-none-there (x ∷ xs) is = absurd (omega (arith, is))

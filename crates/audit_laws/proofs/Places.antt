@@ -19,6 +19,7 @@ use Rattle.ts_demux.specs.declared.pid_places.Place.{Place}
 use Rattle.ts_demux.specs.CarriedPackets.{carried_before}
 use Rattle.ts_demux.specs.PidPlaces.{added_at, pcr_in, place_at, places_on}
 use Rattle.stream_audit.specs.Streams.{place_of}
+use Rattle.layer_laws.proofs.CountedPackets.{no_packet}
 
 -- ---- the laws below, as these proofs call them
 
@@ -28,9 +29,6 @@ pub record PacketLaws : Type 0 where
       → (packet_of (piece_at file n) ≡ Some packet) × (packet_identifier (piece_at file n) ≡ packet.pid)
   pub carries : (file : List ℕ) (list : List PacketRecord) (pid from to : ℕ) → packets file ≡ map Some list → AreCounted pid list → from ≤ to → to ≤ length list
       → map (λ (c : CarriedPayload). c.payload) (carried (pid_pieces file pid from to)) ≡ payloads_on pid (take (to - from) (drop from list))
-
-no_packet : PacketRecord
-no_packet = record { pid = 0; start = false; counter = 0; field = None; payload = [] }
 
 pub as-many : (file : List ℕ) (list : List PacketRecord) → packets file ≡ map Some list → piece_count file ≡ length list
 as-many file list read = sym (length-map-range_with_len (λ (n : ℕ). packet_of (piece_at file n)) 0 (piece_count file)) ∙ ap length read ∙ length-map list Some

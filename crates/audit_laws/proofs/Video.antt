@@ -5,7 +5,7 @@ use Rattle.std.specs.List.{AllZip, flat_map, sum_by, zip}
 use Rattle.std.specs.List.Sorted.{IsNonDecreasing, IsStrictlyIncreasing}
 use Rattle.std.proofs.lemmas.Bool.{and_right, le-leb, ltb-false, ltb-true}
 use Rattle.std.proofs.lemmas.Int.{ints}
-use Rattle.std.proofs.lemmas.List.{append-nil, length-drop, length-map, length-replicate}
+use Rattle.std.proofs.lemmas.List.{append-nil, length-drop, length-map, length-replicate, nil_from_length}
 use Rattle.std.proofs.lemmas.List.Elements.{All-head, All-tail}
 use Rattle.std.proofs.lemmas.List.Folds.{flat_map-map}
 use Rattle.std.proofs.lemmas.List.Sums.{sum_by-cons}
@@ -55,7 +55,7 @@ use Rattle.audit_laws.specs.Found.{IsFullAtMost}
 use Rattle.audit_laws.specs.Kept.{AreKeptOf, AreOwnUnits}
 use Rattle.audit_laws.proofs.Found.{found-on}
 use Rattle.audit_laws.proofs.Arrivals.{arrivals-are, parts-many, parts_of_payload, payload-parts}
-use Rattle.audit_laws.proofs.Gathered.{LeavesData, before-is, fits-gathered, front, front-is, none-there, of-map, parts-gathered, plain_parts, whole-parts}
+use Rattle.audit_laws.proofs.Gathered.{LeavesData, before-is, fits-gathered, front, front-is, of-map, parts-gathered, plain_parts, whole-parts}
 use Rattle.audit_laws.proofs.Places.{PacketLaws, carried-are, places-are, places_by}
 use Rattle.audit_laws.proofs.Removed.{chosen_dues, chosen_sizes, packets-kept, queue-kept, spread, video-gone, video-wanted, wanted_with_headers}
 
@@ -236,7 +236,7 @@ module _ (laws : PacketLaws) (file : List ℕ) (list : List PacketRecord) (pid p
   wanted-are = video-wanted 0 (zip row.units choice) ∙ ap₂ spread sizes-are (zip-dues row.units choice zipped ∙ is.dues)
 
   nothing-before : front (payloads_on pid list) ≡ []
-  nothing-before = none-there (front (payloads_on pid list))
+  nothing-before = nil_from_length (front (payloads_on pid list))
       (let all = ap (length {A = PacketPart}) all-parts in
       let sum = length-append (replicate (length (front (payloads_on pid list))) Data) (plain_parts sent_bytes) in
       let queued = queue-many headers (payloads_on pid list) (video_queue program row choice).packets beside in
@@ -257,7 +257,8 @@ module _ (laws : PacketLaws) (file : List ℕ) (list : List PacketRecord) (pid p
       ∙ arrivals-are (λ (packet : PacketRecord). packet.pid == pid) 0 list []
 
   -- what is removed from it
-  pub removals-allowed : (shown_at : ℕ) (kept_units : KeptUnits) → shown_at < 2576980377600 → AreOwnUnits shown_at kept_units.base kept_units.units pes times → IsAllowed (Video program row.vbv) headers (video_queue program row choice).packets (unit_removals shown_at kept_units)
+  pub removals-allowed : (shown_at : ℕ) (kept_units : KeptUnits) → shown_at < 2576980377600 → AreOwnUnits shown_at kept_units.base kept_units.units pes times
+      → IsAllowed (Video program row.vbv) headers (video_queue program row choice).packets (unit_removals shown_at kept_units)
   removals-allowed shown_at kept_units below are =
       let removals = removals-are shown_at kept_units.base kept_units.units pes times below are in
       let whole : All (λ (bytes : List ℕ). header_length bytes ≤ length bytes) sent_bytes = λ k d within. (let low = fits k d within in omega (arith, low)) in
@@ -277,14 +278,16 @@ module _ (laws : PacketLaws) (file : List ℕ) (list : List PacketRecord) (pid p
       sizes-less (packet ∷ more) = ap₂ (λ (x : ℕ) (xs : List ℕ). x ∷ xs) (sym (length-drop (header_length packet.bytes) packet.bytes)) (sizes-less more)
 
   -- all of its bytes are kept
-  pub bytes-kept : (shown_at : ℕ) (kept_units : KeptUnits) → shown_at < 2576980377600 → AreOwnUnits shown_at kept_units.base kept_units.units pes times → bytes_of_units kept_units ≡ sum_by (λ (packet : PesUnit). length (pes_payload_of packet)) pes
+  pub bytes-kept : (shown_at : ℕ) (kept_units : KeptUnits) → shown_at < 2576980377600 → AreOwnUnits shown_at kept_units.base kept_units.units pes times
+      → bytes_of_units kept_units ≡ sum_by (λ (packet : PesUnit). length (pes_payload_of packet)) pes
   bytes-kept shown_at kept_units below are = (removals-are shown_at kept_units.base kept_units.units pes times below are).2
 
 -- what an audit takes of it
 pub video-found : PacketLaws
     → (file : List ℕ) (list : List PacketRecord) (slot pid program base : ℕ) (row : ProgramRow) (choice : List ℕ) (pes : List PesUnit) (times : List ℕ) (kept_units : KeptUnits)
     (stream : AuditedStream) (found : Option Finding) → CarriesVideo file list pid row choice pes times → (is_clean : IsCleanOn slot pid (video_queue program row choice) list)
-    → All (λ (p : Payload). header_bytes p < length p.bytes) (payloads_on pid list) → first_sequence (joined pes) ≡ Some 0 → base < 2576980377600 → AreKeptOf base pes times row.vbv kept_units → IsVideoStream file base kept_units pid pes stream → FindsOn slot stream found → IsFullAtMost found
+    → All (λ (p : Payload). header_bytes p < length p.bytes) (payloads_on pid list) → first_sequence (joined pes) ≡ Some 0 → base < 2576980377600
+    → AreKeptOf base pes times row.vbv kept_units → IsVideoStream file base kept_units pid pes stream → FindsOn slot stream found → IsFullAtMost found
 video-found laws file list slot pid program base row choice pes times kept_units stream found is is_clean data_behind first below kept_are audited finds =
     found-on slot stream
     (λ fault has.

@@ -18,6 +18,7 @@ ghost use Rattle.audit_laws.specs.Written.{IsFoundClean};
 use crate::laws::{audio_is_clean, clock_is_read, sections_are_clean, video_is_clean};
 use job_laws::programs::programs_are_read_back;
 use job_laws::streams::slots_are_rows;
+use job_programs::laws::programs_of_contents_are_read;
 use job_stream::laws::stream_has_slots;
 use layer_laws::packets::counted_payloads_are_carried;
 use layer_laws::pes::audio_packet_wherever_it_stands;
@@ -45,6 +46,7 @@ pub fn written_streams_are_clean()
     schedules_are_clean();
     removals_when_wanted_are_allowed();
     stream_has_slots();
+    programs_of_contents_are_read();
     stream_carries_its_times();
     programs_are_read_back();
     slots_are_rows();

@@ -28,6 +28,11 @@ AreBytes-take zero xs are = tt
 AreBytes-take (suc k) [] are = tt
 AreBytes-take (suc k) (x ∷ xs) are = (are.0, AreBytes-take k xs are.1)
 
+pub AreBytes-drop : (k : ℕ) (xs : List ℕ) → AreBytes xs → AreBytes (drop k xs)
+AreBytes-drop zero xs are = are
+AreBytes-drop (suc k) [] are = tt
+AreBytes-drop (suc k) (x ∷ xs) are = AreBytes-drop k xs are.1
+
 pub AreBytes-append : (xs ys : List ℕ) → AreBytes xs → AreBytes ys → AreBytes (xs ++ ys)
 AreBytes-append [] ys are are' = are'
 AreBytes-append (x ∷ xs) ys are are' = (are.0, AreBytes-append xs ys are.1 are')

@@ -7,7 +7,7 @@ use Rattle.std.specs.declared.cmp.Reverse.{Reverse}
 use Rattle.std.proofs.lemmas.List.{length-map}
 use Rattle.std.proofs.lemmas.List.Sorted.{Contains-permutation, IsPermutation-sym}
 use Rattle.version_table.specs.declared.table.Table.{Table}
-use Rattle.version_table.specs.Table.{IsValidTable}
+use Rattle.version_table.specs.Table.{IsValidTable, units_of}
 use Rattle.bound_certificate.specs.declared.cert.Cert.{Cert}
 use Rattle.bound_certificate.specs.declared.cert.Node.{Node}
 use Rattle.certificate_checker.specs.Checked.{IsAtMost, IsFaultless}
@@ -20,13 +20,14 @@ use Rattle.branch_plan.specs.declared.arena.Link.{Link}
 use Rattle.branch_plan.specs.declared.branching.Growth.{Growth}
 use Rattle.branch_plan.specs.declared.found.Found.{Found}
 use Rattle.branch_plan.specs.declared.known.Known.{Known}
-use Rattle.branch_plan.specs.Tree.{HasLeaf}
-use Rattle.branch_plan.specs.Private.Branching.{Ends, IsGrown, IsOpenAt, IsSettledIn, IsSpentAt, IsTaken, IsTree}
+use Rattle.branch_plan.specs.Tree.{AreEnough, HasLeaf, IsPast}
+use Rattle.branch_plan.specs.Private.Branching.{Ends, HasBytes, IsFull, IsGrown, IsOpenAt, IsSettledIn, IsSpentAt, IsTaken, IsTree, tree_bytes}
 use Rattle.branch_plan.specs.Private.Forest.{Forest, no_tree, leaf_at, branch_at, ids_then, least_shown, occurs, times_among}
 use Rattle.branch_plan.specs.Private.Found.{IsFounded}
-use Rattle.branch_plan.specs.Private.Growth.{IsOrder, StandOnce, node_of}
+use Rattle.branch_plan.specs.Private.Growth.{IsOrder, StandOnce, next_of, node_of}
 use Rattle.branch_plan.specs.Private.Known.{IsKnown}
 use Rattle.branch_plan.specs.Private.Leaves.{IsFreeUnit}
+use Rattle.branch_plan.proofs.TreeBytes.{full_cert, ordered_bytes}
 use Rattle.branch_plan.proofs.Forests.{at_most_least, has_leaf, in_branch, in_leaf, least_at_most, tree_walks}
 use Rattle.branch_plan.proofs.Opens.{all_contained, contains_first, first_or_more}
 use Rattle.branch_plan.proofs.Splits.{ids_count}
@@ -102,6 +103,11 @@ tree_once : (table : Table) (nodes : List Node) (links : List Link) (path : ℕ 
     → StandOnce (length nodes) (ids_then tree [])
 tree_once table nodes links path tree is j low = omega (arith, times_of j tree [], is.once j low)
 
+tree_order_bytes : (table : Table) (nodes : List Node) (links : List Link) (path : ℕ → List (Option ℕ)) (tree : Forest) → IsTree table nodes links path tree
+    → tree_bytes (map (node_of nodes) (ids_then tree [])) ≡ tree_bytes nodes
+tree_order_bytes table nodes links path tree is =
+    ordered_bytes nodes (next_of links) 0 (ids_then tree []) is.follows (λ j low. omega (arith, times_of j tree [], is.once j low))
+
 -- ---- the bound is the distortion
 settled_best : (table : Table) (nodes : List Node) (path : ℕ → List (Option ℕ)) (leaves : List (Reverse (ℕ × ℕ))) (distortion j : ℕ)
     → ((leaf : Reverse (ℕ × ℕ)) → Contains leaves leaf → distortion ≤ leaf.0.0) → IsSettledIn table nodes path leaves distortion j
@@ -111,10 +117,10 @@ settled_best table nodes path leaves distortion j each (inr (leaf, there, number
     subst (λ (b : Option ℕ). IsAtMost distortion b) (sym is) (each leaf there)
 
 pub ends_best : (table : Table) (most root time : ℕ) (arena : Arena) (known : Known) (found : Found) (leaves : List (Reverse (ℕ × ℕ))) → IsValidTable table
-    → IsGrown table most root arena.nodes.items arena.links.items leaves known.distortion → IsKnown table known → root ≤ known.distortion → IsFounded table most found time root arena.nodes.items → length arena.nodes.items ≤ most
+    → IsGrown table most root arena.nodes.items arena.links.items leaves known.distortion → IsKnown table known → root ≤ known.distortion → IsFounded table most found time root arena.nodes.items → length arena.nodes.items ≤ most → (bytes : ℕ) → HasBytes table arena.nodes.items bytes
     → ((leaf : Reverse (ℕ × ℕ)) → Contains leaves leaf → known.distortion ≤ leaf.0.0)
     → Ends table most (record { arena = arena; bound = known.distortion; known = known; found = found })
-ends_best table most root time arena known found leaves valid grown is root_is founded few each =
+ends_best table most root time arena known found leaves valid grown is root_is founded few bytes has each =
     let nodes = arena.nodes.items in
     let ids = ids_then grown.tree [] in
     let shown = least_shown table (node_of nodes) (λ j. unfixed table) 0 grown.tree in
@@ -129,6 +135,7 @@ ends_best table most root time arena known found leaves valid grown is root_is f
       once = tree_once table nodes arena.links.items grown.path grown.tree grown.is;
       as_many = grown.is.as_many;
       nodes = few;
+      bytes = omega (arith, tree_order_bytes table nodes arena.links.items grown.path grown.tree grown.is, has.are, has.within);
       each = grown.each;
       known = is;
       shows = subst (λ (b : Option ℕ). Walks table (unfixed table) (map (node_of nodes) ids) (Shows b [])) best walks;
@@ -150,8 +157,18 @@ settled_least table nodes path all leaves top bound distortion j is less taken l
     at_or_above (inl same) = omega (arith, is, ap (λ (l : Reverse (ℕ × ℕ)). l.0.0) same)
     at_or_above (inr rest) = all_contained bound leaves leaf least rest
 
+-- a branch more at a tree would take it past its nodes, or maybe past its bytes
+abbrev pub IsPastAt : Table → (most versions : ℕ) → Growth → Type 0
+IsPastAt table most versions growth =
+    (most < length growth.arena.nodes.items + versions) ⊎ ((AreEnough table most → ⊥) × IsFull table growth versions)
+
+past_cert : (table : Table) (most versions : ℕ) (growth : Growth) (cert : Cert) → length cert.nodes ≡ length growth.arena.nodes.items → tree_bytes cert.nodes ≡ growth.bytes
+    → length cert.choice ≡ length (units_of table) → IsPastAt table most versions growth → IsPast table most versions cert
+past_cert table most versions growth cert as_many bytes choice (inl nodes) = inl (omega (arith, as_many, nodes))
+past_cert table most versions growth cert as_many bytes choice (inr (few, full)) = inr (few, full_cert table versions growth cert full choice bytes)
+
 pub ends_spent : (table : Table) (most bound number unit : ℕ) (growth : Growth) → IsValidTable table → (taken : IsTaken table most growth bound number)
-    → IsFreeUnit table (taken.grown.path number) unit → most < length growth.arena.nodes.items + versions_of table unit
+    → IsFreeUnit table (taken.grown.path number) unit → IsPastAt table most (versions_of table unit) growth
     → Ends table most (record { arena = growth.arena; bound = bound; known = growth.known; found = growth.found })
 ends_spent table most bound number unit growth valid taken free past =
     let nodes = growth.arena.nodes.items in
@@ -176,7 +193,8 @@ ends_spent table most bound number unit growth valid taken free past =
     (least_at_most table (length nodes) (node_of nodes) path n number top_open.leaf (λ j. unfixed table) 0 tree there grown.is.stands at)) in
     let is : shown ≡ Some bound = shown_least bound shown all under in
     let order = tree_order table nodes links path tree grown.is in
-    let spent : IsSpentAt table most (map (node_of nodes) ids) bound = (λ cert nodes_is bound_is. record {
+    let ordered = tree_order_bytes table nodes links path tree grown.is in
+    let spent : IsSpentAt table most (map (node_of nodes) ids) bound = (λ cert nodes_is bound_is choice. record {
       leaf = node_of nodes number;
       path = path number;
       has_leaf =
@@ -186,7 +204,8 @@ ends_spent table most bound number unit growth valid taken free past =
       unit = unit;
       free = free.1;
       many = free.2;
-      past = omega (arith, past, ap length nodes_is, length-map ids (node_of nodes), order.1);
+      past = past_cert table most (versions_of table unit) growth cert (ap length nodes_is ∙ length-map ids (node_of nodes) ∙ order.1)
+          (ap (λ (ns : List Node). tree_bytes ns) nodes_is ∙ ordered ∙ sym taken.bytes.are) choice past;
     }) in
     record {
       ids = ids;
@@ -195,6 +214,7 @@ ends_spent table most bound number unit growth valid taken free past =
       once = tree_once table nodes links path tree grown.is;
       as_many = grown.is.as_many;
       nodes = taken.nodes;
+      bytes = omega (arith, ordered, taken.bytes.are, taken.bytes.within);
       each = grown.each;
       known = taken.known;
       shows = subst (λ (b : Option ℕ). Walks table (unfixed table) (map (node_of nodes) ids) (Shows b [])) is walks;

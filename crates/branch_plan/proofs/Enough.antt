@@ -50,7 +50,7 @@ use Rattle.certificate_checker.specs.Walk.{IsLeaf, Shows, Stops, Walked, Walks, 
 use Rattle.branch_plan.specs.declared.planner.Search.{Search}
 use Rattle.branch_plan.specs.declared.planner.Search.TheVariants.{Budget, Optimal}
 use Rattle.branch_plan.specs.Plan.{ShowsItsBound}
-use Rattle.branch_plan.specs.Tree.{AreEnough, BranchesOnMany, HasLeaf, HasLeafBelow, IsSpent, here, below, in_first, in_later, nodes_of_whole_tree, version_counts}
+use Rattle.branch_plan.specs.Tree.{AreEnough, BranchesOnMany, HasLeaf, HasLeafBelow, IsPast, IsSpent, here, below, in_first, in_later, nodes_of_whole_tree, version_counts}
 use Rattle.branch_plan.proofs.Behind.{EachFrom, ShowsFrom, each_from, moved, same_walk, shows_from}
 use Rattle.branch_plan.proofs.WholeTrees.{
   Fall,
@@ -249,10 +249,10 @@ mutual
 
 -- ---- the units of a table in order
 
-abbrev counts_of : Table → List ℕ
+abbrev pub counts_of : Table → List ℕ
 counts_of table = map (λ (unit : CodedUnit). length unit.versions.items) (units_of table)
 
-count_at : (table : Table) (unit : ℕ) → get_or (counts_of table) unit 0 ≡ versions_of table unit
+pub count_at : (table : Table) (unit : ℕ) → get_or (counts_of table) unit 0 ≡ versions_of table unit
 count_at table unit = get_or-map (λ (u : CodedUnit). length u.versions.items) (units_of table) unit no_unit
 
 count_is : (table : Table) (unit j : ℕ) → unit ≡ 0 + j → versions_of table unit ≡ get_or (counts_of table) j 0
@@ -312,7 +312,11 @@ never_spent table nodes_most cert shows many enough spent =
     let all : nodes_at table made.0 (unfixed table) ≡ nodes_of_whole_tree enough.0 =
     all_free (versions_of table) (free_in (unfixed table)) nodes_of_whole_tree made.0 refl (λ count counts. refl) (free_unfixed table)
     ∙ ap (λ (counts : List ℕ). nodes_of_whole_tree counts) made.2 in
-    omega (arith, room, all, enough.3, spent.past)
+    not_past spent.past (omega (arith, room, all, enough.3))
+  where
+    not_past : IsPast table nodes_most (versions_of table spent.unit) cert → length cert.nodes + versions_of table spent.unit ≤ nodes_most → ⊥
+    not_past (inl past) within = omega (arith, past, within)
+    not_past (inr (few, full)) within = few enough
 
 pub always_optimal : (table : Table) (nodes_most : ℕ) (cert : Cert) (search : Search) → ShowsItsBound table cert → All (BranchesOnMany table) cert.nodes
     → (search ≡ Budget → IsSpent table nodes_most cert) → AreEnough table nodes_most → search ≡ Optimal

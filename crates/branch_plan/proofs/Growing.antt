@@ -1,5 +1,5 @@
 -- Children one after the other, and the tree with them.
-use Rattle.std.proofs.Common.{◌≡◌, ◌≢◌, ℕ, ◌+◌, ◌-◌, ◌<◌, ◌≤◌, ◌==◌, ◌⊎◌, inl, inr, Bool, true, false, cond, List, [], ◌∷◌, ◌++◌, length, set, Option, Some, None, refl, sym, ap, subst, ◌∙◌, mul-zero, arith}
+use Rattle.std.proofs.Common.{◌≡◌, ◌≢◌, ℕ, ◌+◌, ◌-◌, ◌<◌, ◌≤◌, ◌==◌, ◌⊎◌, inl, inr, Bool, true, false, cond, List, [], ◌∷◌, ◌++◌, length, set, Option, Some, None, refl, sym, ap, subst, ◌∙◌, arith}
 use Rattle.std.specs.List.{Contains}
 use Rattle.std.specs.List.Sorted.{IsPermutation}
 use Rattle.std.specs.declared.cmp.Reverse.{Reverse}
@@ -246,7 +246,7 @@ pub record AreGrowing (table : Table) (most root : ℕ) (nodes : List Node) (lin
   pub kept : new ≤ old
 
 branch_may : (table : Table) (most unit : ℕ) → 2 ≤ versions_of table unit → MayStand table most (Branch unit)
-branch_may table most unit many = record { many = many; version = tt; windows = omega arith; few = λ high. omega arith; buffers = omega (arith, mul-zero most) }
+branch_may table most unit many = record { many = many; version = tt; windows = omega arith; few = λ high. omega arith }
 
 pub each_grown : (table : Table) (most : ℕ) (nodes made : List Node) (i unit j : ℕ) → ((j : ℕ) → j < length nodes → MayStand table most (node_of nodes j))
     → ((k : ℕ) → k < length made → MayStand table most (node_of made k)) → i < length nodes → 2 ≤ versions_of table unit → j < length nodes + length made

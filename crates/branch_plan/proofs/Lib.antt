@@ -19,6 +19,8 @@ pub mod Reaching
 pub mod Roots
 pub mod Splits
 pub mod Stepping
+pub mod TreeBytes
 pub mod Trying
 pub mod Valued
+pub mod WholeCounts
 pub mod WholeTrees

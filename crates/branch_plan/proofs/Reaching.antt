@@ -1,17 +1,21 @@
 -- What the windows of a leaf bound, they bound of its children: windows that see the buffers where each version of the unit fits.
-use Rattle.std.proofs.Common.{◌≡◌, ℕ, zero, suc, ◌*◌, ◌<◌, ◌≤◌, Bool, true, false, if◌then◌else◌, nat_le, nat_lt, List, [], ◌∷◌, length, map, filter, get_or, Option, Some, None, refl, sym, ap, subst, ◌∙◌, inl, inr, lt-ltb, arith, ℤ, pos, negsuc, ◌≤ℤ◌}
+use Rattle.std.proofs.Common.{◌≡◌, ℕ, zero, suc, ◌*◌, ◌<◌, ◌≤◌, Bool, true, false, if◌then◌else◌, nat_le, nat_lt, List, [], ◌∷◌, length, map, filter, get_or, Option, Some, None, refl, sym, ap, subst, inl, inr, lt-ltb, arith, ℤ, pos, negsuc, ◌≤ℤ◌}
 use Rattle.std.specs.List.{AllZip, list_all, zip}
-use Rattle.std.proofs.lemmas.Bool.{and_from, and_parts, cases_Bool, le-leb}
+use Rattle.std.proofs.lemmas.Bool.{and_from, and_parts, cases_Bool}
 use Rattle.std.proofs.lemmas.Int.{ints}
 use Rattle.std.proofs.lemmas.List.{get_or-map, length-map}
 use Rattle.std.proofs.lemmas.List.Sums.{sum_by-cons}
+use Rattle.std.proofs.Math.Nat.{mul-le-mul_left}
+use Rattle.std.proofs.lemmas.Nat.{mul-le}
 use Rattle.stream_constants.specs.declared.decoder.TheConstants.{EB_UNIT_BYTES}
+use Rattle.version_table.specs.declared.limits.TheConstants.{NODES_MOST}
 use Rattle.version_table.specs.declared.table.Table.{Table}
 use Rattle.version_table.specs.declared.table.Unit.{Unit as CodedUnit}
 use Rattle.version_table.specs.declared.table.Version.{Version}
 use Rattle.version_table.specs.Choice.{least}
 use Rattle.version_table.specs.Table.{units_of}
 use Rattle.version_table.proofs.Least.{least-le}
+use Rattle.dual_bounds.specs.declared.constants.TheConstants.{WINDOWS_MOST}
 use Rattle.dual_bounds.specs.declared.windows.Window.{Window as PricedWindow}
 use Rattle.dual_bounds.specs.Bounds.{bound_of_value}
 use Rattle.dual_bounds.specs.Fixed.{FixesVersions, KeepsFixed, NamesVersion}
@@ -25,13 +29,12 @@ use Rattle.bound_certificate.specs.declared.cert.Node.{Node}
 use Rattle.bound_certificate.specs.declared.cert.Node.TheVariants.{Branch, Dual, Run, Open, Window, BufferWindow}
 use Rattle.certificate_checker.specs.Faults.{IsFree}
 use Rattle.certificate_checker.specs.Shown.{fix, unfixed, versions_of, windows_in}
-use Rattle.branch_plan.specs.declared.limits.TheConstants.{BUFFER_WINDOWS_IN_ALL, FEW_WINDOWS_MOST, NODES_WITH_MANY_WINDOWS_MOST}
 use Rattle.branch_plan.specs.declared.found.Found.{Found}
-use Rattle.branch_plan.specs.Bound.{bound_where_few, unit_fits}
-use Rattle.branch_plan.specs.Private.Found.{IsReached, IsReachedAbove, buffer_windows_in, buffers_of, time_of}
+use Rattle.branch_plan.specs.Bound.{unit_fits}
+use Rattle.branch_plan.specs.Private.Found.{AreShared, IsReached, IsReachedAbove, buffer_windows_in, buffers_of, time_of}
 use Rattle.multiplier_search.specs.Buffered.{AreSearchedBuffered}
 use Rattle.multiplier_search.specs.Windows.{AreSearched}
-use Rattle.branch_plan.specs.Private.Leaves.{IsFreeUnit, MayBranch, MayStand}
+use Rattle.branch_plan.specs.Private.Leaves.{IsFreeUnit, MayBranch}
 use Rattle.branch_plan.proofs.Owned.{no_owned, owned_count, versions_are}
 
 -- ---- what units cost in windows that see the buffers
@@ -124,32 +127,6 @@ seen_child table windows fixed unit k bound free within fits low is =
       omega (arith, value, rise),
     )
 
-few_child : (table : Table) (most : ℕ) (windows : List SeeingWindow) (fixed : List (Option ℕ)) (unit k bound : ℕ) → IsFree fixed unit → unit < length (units_of table)
-    → unit_fits table unit ≡ true → k < versions_of table unit → bound_where_few table most fixed windows ≡ Some bound
-    → (other : ℕ) × (bound_where_few table most (fix unit k fixed) windows ≡ Some other) × (bound ≤ other)
-unfolding bound_where_few
-few_child table most windows fixed unit k bound free within fits low is =
-    let now = fix unit k fixed in
-    let had = some_where (nat_le (most * length windows) BUFFER_WINDOWS_IN_ALL) (bound_of_buffer_windows table fixed windows) bound is in
-    let child = seen_child table windows fixed unit k bound free within fits low had.1 in
-    (child.0, ap (λ (b : Bool). if b then bound_of_buffer_windows table now windows else None) had.0 ∙ child.1, child.2)
-
-pub where_few : (table : Table) (most : ℕ) (fixed : List (Option ℕ)) (windows : List SeeingWindow) → most * length windows ≤ BUFFER_WINDOWS_IN_ALL
-    → bound_where_few table most fixed windows ≡ bound_of_buffer_windows table fixed windows
-unfolding bound_where_few
-where_few table most fixed windows few =
-    ap (λ (b : Bool). if b then bound_of_buffer_windows table fixed windows else None) (le-leb (most * length windows) BUFFER_WINDOWS_IN_ALL few)
-
-pub where_many : (table : Table) (most : ℕ) (fixed : List (Option ℕ)) (windows : List SeeingWindow) → nat_le (most * length windows) BUFFER_WINDOWS_IN_ALL ≡ false
-    → bound_where_few table most fixed windows ≡ None
-unfolding bound_where_few
-where_many table most fixed windows many = ap (λ (b : Bool). if b then bound_of_buffer_windows table fixed windows else None) many
-
-pub few_where : (table : Table) (most : ℕ) (fixed : List (Option ℕ)) (windows : List SeeingWindow) (bound : ℕ) → bound_where_few table most fixed windows ≡ Some bound
-    → (nat_le (most * length windows) BUFFER_WINDOWS_IN_ALL ≡ true) × (bound_of_buffer_windows table fixed windows ≡ Some bound)
-unfolding bound_where_few
-few_where table most fixed windows bound is = some_where (nat_le (most * length windows) BUFFER_WINDOWS_IN_ALL) (bound_of_buffer_windows table fixed windows) bound is
-
 -- ---- windows of time
 keeps_all : (entries : List (Option ℕ)) → AllZip KeepsFixed entries entries
 keeps_all [] = tt
@@ -180,34 +157,34 @@ child_value table windows own fixed unit k free fixes greater =
     omega (arith, first, second)
 
 -- ---- a leaf and its children
-pub reached_child : (table : Table) (most : ℕ) (fixed now : List (Option ℕ)) (unit k : ℕ) (windows own : List PricedWindow) (buffers : List SeeingWindow) (floor : ℕ)
+pub reached_child : (table : Table) (fixed now : List (Option ℕ)) (unit k : ℕ) (windows own : List PricedWindow) (buffers : List SeeingWindow) (floor : ℕ)
     → IsFreeUnit table fixed unit → k < versions_of table unit → now ≡ fix unit k fixed → FixesVersions table now → value_of_windows table now windows ≤ℤ value_of_windows table now own
-    → IsReachedAbove table most fixed unit windows buffers floor → IsReached table most now own buffers floor
-reached_child table most fixed now unit k windows own buffers floor free low now_is fixes greater reached =
-    subst (λ (f : List (Option ℕ)). IsReached table most f own buffers floor) (sym now_is) (by_kind reached)
+    → IsReachedAbove table fixed unit windows buffers floor → IsReached table now own buffers floor
+reached_child table fixed now unit k windows own buffers floor free low now_is fixes greater reached =
+    subst (λ (f : List (Option ℕ)). IsReached table f own buffers floor) (sym now_is) (by_kind reached)
   where
-    by_kind : IsReachedAbove table most fixed unit windows buffers floor → IsReached table most (fix unit k fixed) own buffers floor
+    by_kind : IsReachedAbove table fixed unit windows buffers floor → IsReached table (fix unit k fixed) own buffers floor
     by_kind (inl low_enough) =
         let value = child_value table windows own fixed unit k free.1 (subst (λ (f : List (Option ℕ)). FixesVersions table f) now_is fixes)
         (subst (λ (f : List (Option ℕ)). value_of_windows table f windows ≤ℤ value_of_windows table f own) now_is greater) in
         inl (omega (arith, low_enough, value))
     by_kind (inr (fits, (bound, is, low_enough))) =
-        let child = few_child table most buffers fixed unit k bound free.1 free.0 fits low is in
+        let child = seen_child table buffers fixed unit k bound free.1 free.0 fits low is in
         inr (child.0, child.1, omega (arith, low_enough, child.2))
 
 -- what a leaf's bound says of its windows
-pub reached_above : (table : Table) (most : ℕ) (fixed : List (Option ℕ)) (unit : ℕ) (node : Node) (found : Found) (bound root floor time : ℕ) → FixesVersions table fixed
-    → MayBranch table fixed node bound → MayStand table most node → root ≤ bound → floor ≤ root → time ≡ bound_of_value (value_of_windows table (unfixed table) found.time.items)
-    → (unit_fits table unit ≡ false → floor ≡ time) → IsReachedAbove table most fixed unit (time_of node found.time.items) (buffers_of node found.buffers) floor
-reached_above table most fixed unit (Branch other) found bound root floor time fixes may stands above below time_is misfit = absurd may.has
-reached_above table most fixed unit (Dual priced) found bound root floor time fixes may stands above below time_is misfit = absurd may.has
-reached_above table most fixed unit (Run scheduled) found bound root floor time fixes may stands above below time_is misfit = absurd may.has
-reached_above table most fixed unit Open found bound root floor time fixes may stands above below time_is misfit = absurd may.has
-reached_above table most fixed unit (Window priced) found bound root floor time fixes may stands above below time_is misfit =
+pub reached_above : (table : Table) (fixed : List (Option ℕ)) (unit : ℕ) (node : Node) (found : Found) (bound root floor time : ℕ) → FixesVersions table fixed
+    → MayBranch table fixed node bound → root ≤ bound → floor ≤ root → time ≡ bound_of_value (value_of_windows table (unfixed table) found.time.items)
+    → (unit_fits table unit ≡ false → floor ≡ time) → IsReachedAbove table fixed unit (time_of node found.time.items) (buffers_of node found.buffers) floor
+reached_above table fixed unit (Branch other) found bound root floor time fixes may above below time_is misfit = absurd may.has
+reached_above table fixed unit (Dual priced) found bound root floor time fixes may above below time_is misfit = absurd may.has
+reached_above table fixed unit (Run scheduled) found bound root floor time fixes may above below time_is misfit = absurd may.has
+reached_above table fixed unit Open found bound root floor time fixes may above below time_is misfit = absurd may.has
+reached_above table fixed unit (Window priced) found bound root floor time fixes may above below time_is misfit =
     inl (omega (arith, above, below, some_is (bound_of_value (value_of_windows table fixed priced.items)) bound may.bound_is))
-reached_above table most fixed unit (BufferWindow priced) found bound root floor time fixes may stands above below time_is misfit =
-    elim (cases_Bool (unit_fits table unit)) as (λ _. IsReachedAbove table most fixed unit found.time.items priced floor) [
-      | inl fits ↦ inr (fits, (bound, where_few table most fixed priced stands.buffers ∙ may.bound_is, omega (arith, above, below)))
+reached_above table fixed unit (BufferWindow priced) found bound root floor time fixes may above below time_is misfit =
+    elim (cases_Bool (unit_fits table unit)) as (λ _. IsReachedAbove table fixed unit found.time.items priced floor) [
+      | inl fits ↦ inr (fits, (bound, may.bound_is, omega (arith, above, below)))
       | inr not ↦
           let value = bounds_rise (value_of_windows table (unfixed table) found.time.items) (value_of_windows table fixed found.time.items)
           (fixing_more table (unfixed table) fixed found.time.items fixes (keeps_none (units_of table) fixed fixes)) in
@@ -222,13 +199,14 @@ time_searched Open others own rest = rest
 time_searched (Window priced) others own rest = own
 time_searched (BufferWindow priced) others own rest = rest
 
-pub time_few : (node : Node) (others : List PricedWindow) → length (windows_in node) ≤ FEW_WINDOWS_MOST → length others ≤ FEW_WINDOWS_MOST → length (time_of node others) ≤ FEW_WINDOWS_MOST
-time_few (Branch unit) others own rest = rest
-time_few (Dual priced) others own rest = rest
-time_few (Run scheduled) others own rest = rest
-time_few Open others own rest = rest
-time_few (Window priced) others own rest = own
-time_few (BufferWindow priced) others own rest = rest
+pub time_few : (table : Table) (most : ℕ) (node : Node) (others : List PricedWindow) → AreShared table most (length (windows_in node)) → AreShared table most (length others)
+    → AreShared table most (length (time_of node others))
+time_few table most (Branch unit) others own rest = rest
+time_few table most (Dual priced) others own rest = rest
+time_few table most (Run scheduled) others own rest = rest
+time_few table most Open others own rest = rest
+time_few table most (Window priced) others own rest = own
+time_few table most (BufferWindow priced) others own rest = rest
 
 pub buffers_searched : (table : Table) (node : Node) (others : List SeeingWindow) → AreSearchedBuffered table (buffer_windows_in node) → AreSearchedBuffered table others
     → AreSearchedBuffered table (buffers_of node others)
@@ -239,8 +217,12 @@ buffers_searched table Open others own rest = rest
 buffers_searched table (Window priced) others own rest = rest
 buffers_searched table (BufferWindow priced) others own rest = own
 
--- the windows of a child are few where there may be many nodes
-pub few_own : (nodes : ℕ) (windows own : List PricedWindow) (relaxed : Bool) → (relaxed ≡ true → nodes ≤ NODES_WITH_MANY_WINDOWS_MOST) → (relaxed ≡ false → own ≡ windows)
-    → (NODES_WITH_MANY_WINDOWS_MOST < nodes → length windows ≤ FEW_WINDOWS_MOST) → NODES_WITH_MANY_WINDOWS_MOST < nodes → length own ≤ FEW_WINDOWS_MOST
-few_own nodes windows own true cheap same few many = absurd (omega (arith, cheap refl, many))
-few_own nodes windows own false cheap same few many = omega (arith, ap length (same refl), few many)
+-- fewer windows have as much room
+pub fewer_shared : (table : Table) (most count more : ℕ) → count ≤ more → AreShared table most more → AreShared table most count
+fewer_shared table most count more less shared enough = omega (arith, mul-le-mul_left most less, shared enough)
+
+-- the windows of a root are few, those of a relaxation where each leaf may have as many, and else two
+pub root_few : (table : Table) (most count : ℕ) (relaxes : Bool) → most ≤ NODES_MOST → (relaxes ≡ true → AreShared table most WINDOWS_MOST) → count ≤ WINDOWS_MOST
+    → (relaxes ≡ false → count ≤ 2) → AreShared table most count
+root_few table most count true limit shared within few enough = fewer_shared table most count WINDOWS_MOST within (shared refl) enough
+root_few table most count false limit shared within few enough = omega (arith, mul-le most count 1048576 2 limit (few refl))

@@ -10,10 +10,10 @@ use Rattle.version_table.specs.Table.{IsValidTable, units_of}
 use Rattle.version_table.specs.Choice.{Fits, distortion_of_choice}
 use Rattle.slot_rule.specs.Schedule.{IsScheduled}
 use Rattle.buffer_windows.specs.declared.windows.BufferWindow.{BufferWindow as SeeingWindow}
+use Rattle.buffer_windows.specs.Bounds.{bound_of_buffer_windows}
 use Rattle.multiplier_search.specs.Buffered.{AreSearchedBuffered}
 use Rattle.branch_plan.specs.declared.found.Found.{Found}
-use Rattle.branch_plan.specs.Private.Found.{IsSound, ReachesBoth}
-use Rattle.branch_plan.proofs.Reaching.{few_where}
+use Rattle.branch_plan.specs.Private.Found.{ReachesBoth}
 use Rattle.dual_bounds.specs.declared.constants.TheConstants.{WINDOWS_MOST}
 use Rattle.dual_bounds.specs.declared.windows.Multiplier.{Multiplier}
 use Rattle.dual_bounds.specs.declared.windows.Window.{Window as PricedWindow}
@@ -30,7 +30,7 @@ use Rattle.certificate_checker.specs.Faults.{AreRight, AreRightBufferWindows, Is
 use Rattle.certificate_checker.specs.Walk.{Shows, Walks, leaf}
 use Rattle.certificate_checker.specs.Checked.{IsFaultless}
 use Rattle.certificate_checker.proofs.Soundness.{faultless_bound}
-use Rattle.branch_plan.specs.Bound.{IsAtLeastEachPair, IsAtLeastEachTried, bound_where_few, unit_dues}
+use Rattle.branch_plan.specs.Bound.{IsAtLeastEachPair, IsAtLeastEachTried, unit_dues}
 use Rattle.branch_plan.specs.Plan.{ShowsItsBound}
 use Rattle.branch_plan.specs.declared.known.Known.{Known}
 use Rattle.branch_plan.specs.Private.Known.{IsKnown}
@@ -68,13 +68,12 @@ right_buffered table windows searched =
       limit = λ k d within. (searched.sound k d within).lambda;
     }
 
-pub seen_at_most : (table : Table) (most : ℕ) (windows : List SeeingWindow) (bound : ℕ) (known : Known) → IsValidTable table → AreSearchedBuffered table windows
-    → bound_where_few table most (unfixed table) windows ≡ Some bound → IsKnown table known → bound ≤ known.distortion
-seen_at_most table most windows bound known valid searched seen is =
-    let shown = (few_where table most (unfixed table) windows bound seen).1 in
+pub seen_at_most : (table : Table) (windows : List SeeingWindow) (bound : ℕ) (known : Known) → IsValidTable table → AreSearchedBuffered table windows
+    → bound_of_buffer_windows table (unfixed table) windows ≡ Some bound → IsKnown table known → bound ≤ known.distortion
+seen_at_most table windows bound known valid searched seen is =
     let cert : Cert = record { version = 3; bound = bound; distortion = known.distortion; choice = known.choice; nodes = BufferWindow windows ∷ [] } in
     let head : IsHeadRight table cert = record { fits = is.fits; scheduled = is.scheduled; distortion = is.distortion } in
-    let shows = subst (λ (b : Option ℕ). Walks table (unfixed table) (BufferWindow windows ∷ []) (Shows b [])) shown
+    let shows = subst (λ (b : Option ℕ). Walks table (unfixed table) (BufferWindow windows ∷ []) (Shows b [])) seen
     (leaf (unfixed table) (BufferWindow windows) [] tt (right_buffered table windows searched)) in
     let right : IsFaultless table cert = faultless table cert head shows in
     subst (λ (n : ℕ). bound ≤ n) (sym is.distortion) (faultless_bound table cert valid right known.choice is.fits is.scheduled)
@@ -87,31 +86,31 @@ known_is : (table : Table) (choice : List ℕ) → Fits table choice → IsSched
 unfolding of_choice
 known_is table choice fits scheduled = record { fits = fits; scheduled = scheduled; distortion = refl }
 
-pub reaches_seen : (table : Table) (most : ℕ) (found : Found) (time bound : ℕ) → IsValidTable table → IsSound table most found
-    → bound_where_few table most (unfixed table) found.buffers ≡ Some bound → time < bound → ReachesBoth table most found time bound
+pub reaches_seen : (table : Table) (found : Found) (time bound : ℕ) → IsValidTable table → AreSearchedBuffered table found.buffers
+    → bound_of_buffer_windows table (unfixed table) found.buffers ≡ Some bound → time < bound → ReachesBoth table found time bound
 unfolding of_choice
-reaches_seen table most found time bound valid sound seen more =
+reaches_seen table found time bound valid searched seen more =
     record {
       least = omega (arith, more);
       buffers = λ other is. omega (arith, some_same other bound (sym is ∙ seen));
       reached = inr (bound, seen, omega arith);
-      bounds = λ choice fits scheduled. seen_at_most table most found.buffers bound (of_choice table choice) valid sound.buffers seen (known_is table choice fits scheduled);
+      bounds = λ choice fits scheduled. seen_at_most table found.buffers bound (of_choice table choice) valid searched seen (known_is table choice fits scheduled);
     }
   where
     some_same : (a b : ℕ) → Some a ≡ Some b → a ≡ b
     some_same a b e = grind (arith, e)
 
-pub reaches_time : (table : Table) (most : ℕ) (found : Found) (time : ℕ) (seen : Option ℕ) → IsValidTable table → IsSound table most found
-    → time ≡ bound_of_value (value_of_windows table (unfixed table) found.time.items) → bound_where_few table most (unfixed table) found.buffers ≡ seen
-    → ((bound : ℕ) → seen ≡ Some bound → bound ≤ time) → ReachesBoth table most found time time
+pub reaches_time : (table : Table) (found : Found) (time : ℕ) (seen : Option ℕ) → IsValidTable table → AreSearched found.time.items
+    → time ≡ bound_of_value (value_of_windows table (unfixed table) found.time.items) → bound_of_buffer_windows table (unfixed table) found.buffers ≡ seen
+    → ((bound : ℕ) → seen ≡ Some bound → bound ≤ time) → ReachesBoth table found time time
 unfolding of_choice
-reaches_time table most found time seen valid sound time_is seen_is less =
+reaches_time table found time seen valid searched time_is seen_is less =
     record {
       least = omega arith;
       buffers = λ other is. less other (sym seen_is ∙ is);
       reached = inl (omega (arith, time_is));
       bounds = λ choice fits scheduled.
-          omega (arith, time_is, root_at_most table found.time (of_choice table choice) valid sound.time (known_is table choice fits scheduled));
+          omega (arith, time_is, root_at_most table found.time (of_choice table choice) valid searched (known_is table choice fits scheduled));
     }
 
 -- ---- its bound

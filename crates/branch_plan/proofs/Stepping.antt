@@ -1,10 +1,11 @@
 -- The steps of a search: the root, one child, one branch, and the ends.
-use Rattle.std.proofs.Common.{◌≡◌, ℕ, ◌+◌, ◌<◌, ◌≤◌, ◌==◌, ◌⊎◌, inl, inr, Bool, true, false, cond, List, [], ◌∷◌, ◌++◌, length, get_or, set, Option, Some, None, refl, sym, ap, subst, ◌∙◌, arith}
+use Rattle.std.proofs.Common.{◌≡◌, ℕ, ◌+◌, ◌*◌, ◌<◌, ◌≤◌, ◌==◌, ◌⊎◌, inl, inr, Bool, true, false, cond, List, [], ◌∷◌, ◌++◌, length, get_or, set, Option, Some, None, refl, sym, ap, subst, ◌∙◌, arith}
 use Rattle.std.specs.List.{AllByRecursion, Contains}
 use Rattle.std.specs.List.Sorted.{IsPermutation}
 use Rattle.std.specs.BinaryHeap.{heap_items}
 use Rattle.std.specs.declared.cmp.Reverse.{Reverse}
 use Rattle.std.proofs.lemmas.Bool.{cases_eq}
+use Rattle.std.proofs.lemmas.List.{length-append}
 use Rattle.std.proofs.lemmas.List.Sorted.{Contains-permutation, IsPermutation-sym}
 use Rattle.version_table.specs.declared.table.Table.{Table}
 use Rattle.version_table.specs.Table.{IsValidTable, units_of}
@@ -12,12 +13,15 @@ use Rattle.dual_bounds.specs.Bounds.{bound_of_value}
 use Rattle.dual_bounds.specs.Fixed.{FixesVersions}
 use Rattle.dual_bounds.specs.Values.{value_of_windows}
 use Rattle.buffer_windows.specs.declared.windows.BufferWindow.{BufferWindow as SeeingWindow}
+use Rattle.buffer_windows.specs.Bounds.{bound_of_buffer_windows}
 use Rattle.bound_certificate.specs.declared.cert.Node.{Node}
+use Rattle.bound_certificate.specs.Spelling.{bytes_of_node}
 use Rattle.bound_certificate.specs.declared.cert.Node.TheVariants.{Branch, Dual, Run, Open, Window, BufferWindow}
 use Rattle.certificate_checker.specs.Faults.{IsSettled, LeavesOne}
 use Rattle.certificate_checker.specs.Shown.{fix, unfixed, versions_of}
 use Rattle.certificate_checker.specs.Walk.{IsLeaf}
 use Rattle.certificate_checker.proofs.Units.{all_zip_at, no_unit}
+use Rattle.branch_plan.specs.declared.limits.TheConstants.{BRANCH_BYTES, NODE_BYTES_MOST}
 use Rattle.branch_plan.specs.declared.arena.Link.{Link}
 use Rattle.branch_plan.specs.declared.branching.Growth.{Growth}
 use Rattle.branch_plan.specs.declared.children.Children.{Children}
@@ -26,17 +30,18 @@ use Rattle.branch_plan.specs.declared.found.Found.{Found}
 use Rattle.branch_plan.specs.declared.known.Known.{Known}
 use Rattle.branch_plan.specs.declared.leaves.Leaf.{Leaf}
 use Rattle.branch_plan.specs.declared.values.Values.{Values}
-use Rattle.branch_plan.specs.Bound.{BranchesOnFitting, bound_where_few, unit_fits}
+use Rattle.branch_plan.specs.Bound.{BranchesOnFitting, unit_fits}
 use Rattle.branch_plan.specs.Plan.{BoundsAll}
 use Rattle.branch_plan.specs.Private.Found.{AreSearchedIn, EachBranchFits, IsNoLower, IsSound, ReachesBoth}
-use Rattle.branch_plan.specs.Private.Branching.{AreChildren, AreLinkedBehind, Ends, IsBranched, IsGrown, IsGrowth, IsOpenAt, IsPlace, IsSettledIn, IsTaken, IsWith, IsWithChild, times_in}
+use Rattle.branch_plan.specs.Private.Branching.{AreChildren, AreLinkedBehind, Ends, IsBranched, IsGrown, IsGrowth, IsLeafMost, IsOpenAt, IsPlace, IsSettledIn, IsTaken, IsWith, IsWithChild, times_in, tree_bytes}
 use Rattle.branch_plan.specs.Private.Forest.{leaf_at, no_tree, occurs}
 use Rattle.branch_plan.specs.Private.Growth.{IsOrdered, node_of}
 use Rattle.branch_plan.specs.Private.Known.{IsKnown}
 use Rattle.branch_plan.specs.Private.Leaves.{IsFreeUnit, IsLeafOn, IsSettledBy, MayStand}
-use Rattle.branch_plan.specs.Private.Valued.{AreValued, AreValuedBelow, IsValuedBy}
+use Rattle.branch_plan.specs.Private.Valued.{AreValued, AreValuedBelow, IsValuedBy, values_of}
 use Rattle.branch_plan.proofs.Growing.{AreGrowing, grown_branched, grown_lower, one_more_child}
 use Rattle.branch_plan.proofs.Branched.{branch_node, long_with, old_node}
+use Rattle.branch_plan.proofs.TreeBytes.{bytes_at_most, bytes_branched, node_within}
 use Rattle.branch_plan.proofs.Ending.{ends_best}
 use Rattle.branch_plan.proofs.Valued.{branched_valued, root_valued}
 use Rattle.branch_plan.proofs.Opens.{all_contained, contains_first, first_or_more}
@@ -146,10 +151,10 @@ leaf_fits table (BufferWindow priced) is = tt
 pub rooted_growth : (table : Table) (most old : ℕ) (leaf : Leaf) (fixed : List (Option ℕ)) (before : List (Reverse (ℕ × ℕ))) (growth : Growth)
     → fixed ≡ unfixed table → FixesVersions table fixed → IsLeafOn table most fixed old leaf → IsNoLower growth.root leaf.bound → before ≡ []
     → IsWith leaf.bound 0 before (heap_items growth.leaves) → IsSound table most growth.found
-    → growth.time ≡ bound_of_value (value_of_windows table (unfixed table) growth.found.time.items) → ReachesBoth table most growth.found growth.time growth.root → 1 ≤ most
+    → growth.time ≡ bound_of_value (value_of_windows table (unfixed table) growth.found.time.items) → ReachesBoth table growth.found growth.time growth.root → 1 ≤ most
     → IsOrdered (heap_items growth.leaves) → growth.arena.nodes.items ≡ leaf.node ∷ [] → growth.arena.links.items ≡ record { parent = 0; unit = 0; version = 0; next = 0 } ∷ []
-    → growth.arena.values.items ≡ leaf.values ∷ [] → IsValuedBy table growth.found.buffers fixed leaf.node leaf.values → growth.known ≡ leaf.known → IsGrowth table most growth
-rooted_growth table most old leaf fixed before growth fixed_is fixes is least none with_is sound time_is both some ordered nodes_is links_is values_is valued known_is =
+    → growth.arena.values.items ≡ leaf.values ∷ [] → IsValuedBy table growth.found.buffers fixed leaf.node leaf.values → growth.known ≡ leaf.known → growth.bytes ≡ length (bytes_of_node leaf.node) → growth.bytes ≤ NODE_BYTES_MOST → IsValidTable table → IsGrowth table most growth
+rooted_growth table most old leaf fixed before growth fixed_is fixes is least none with_is sound time_is both some ordered nodes_is links_is values_is valued known_is bytes_is small valid =
     let with_none : IsWith leaf.bound 0 [] (heap_items growth.leaves) = subst (λ (xs : List (Reverse (ℕ × ℕ))). IsWith leaf.bound 0 xs (heap_items growth.leaves)) none with_is in
     let own : IsLeafOn table most (unfixed table) old leaf = subst (λ (f : List (Option ℕ)). IsLeafOn table most f old leaf) fixed_is is in
     let grown = root_grown_valued table growth.found.buffers most growth.root old leaf (heap_items growth.leaves)
@@ -170,6 +175,10 @@ rooted_growth table most old leaf fixed before growth fixed_is fixes is least no
       root = both.bounds;
       founded = record { sound = sound; time_is = time_is; least = both.least; buffers = λ fit bound is_bound. both.buffers bound is_bound };
       nodes = omega (arith, ap length nodes_is, some);
+      bytes = record {
+        are = omega (arith, bytes_is, ap (λ (ns : List Node). tree_bytes ns) nodes_is, length-append (bytes_of_node leaf.node) []);
+        within = omega (arith, small, valid.units);
+      };
     }
 
 -- ---- one child
@@ -205,14 +214,23 @@ fitted table nodes made i unit within leaf fit =
       ],
     )
 
+-- the children of a branch are within the bytes of as many leaves
+pub made_within : (table : Table) (most versions leaf_most : ℕ) (seeing : List SeeingWindow) (fixed : List (Option ℕ)) (unit : ℕ) (made : List Node) (values : List Values)
+    → IsLeafMost seeing leaf_most → length made ≡ versions → ((j : ℕ) → j < versions → MayStand table most (node_of made j))
+    → AreValuedBelow table seeing fixed unit versions made values → tree_bytes made ≤ versions * leaf_most
+made_within table most versions leaf_most seeing fixed unit made values is count each valued =
+    subst (λ (n : ℕ). tree_bytes made ≤ n * leaf_most) count
+    (bytes_at_most leaf_most made
+    (λ j low. node_within table most leaf_most seeing (fix unit j fixed) (node_of made j) (values_of values j) is (each j (omega (arith, low, count))) (valued.each j (omega (arith, low, count)))))
+
 pub branched_growth : (table : Table) (most : ℕ) (old growth : Growth) (place : Place) (made : List Node) (made_values : List Values) (links : List Link) (is : IsPlace table most old place)
     → AreChildren table most growth.root place.fixed place.unit (length old.arena.nodes.items) (versions_of table place.unit) made (heap_items old.leaves) (heap_items growth.leaves) growth.known.distortion
     → AreLinkedBehind place.number place.unit (versions_of table place.unit) old.arena.links.items growth.arena.links.items → IsKnown table growth.known
     → growth.known.distortion ≤ old.known.distortion → IsOrdered (heap_items growth.leaves) → growth.arena.nodes.items ≡ set old.arena.nodes.items place.number (Branch place.unit) ++ made
     → AreValuedBelow table old.found.buffers place.fixed place.unit (versions_of table place.unit) made made_values → growth.arena.values.items ≡ old.arena.values.items ++ made_values → growth.root ≤ old.root → old.time ≤ growth.root → (unit_fits table place.unit ≡ true → growth.root ≡ old.root) → growth.time ≡ old.time → growth.found ≡ old.found
-    → IsBranched table most old growth
+    → growth.bytes + length (bytes_of_node (node_of old.arena.nodes.items place.number)) ≡ old.bytes + BRANCH_BYTES + tree_bytes made → IsBranched table most old growth
 unfolding grown_lower grown_branched
-branched_growth table most old growth place made made_values links is children linked known kept ordered nodes_is valued values_is lower least fits time_is found_is =
+branched_growth table most old growth place made made_values links is children linked known kept ordered nodes_is valued values_is lower least fits time_is found_is bytes_is =
     let nodes = old.arena.nodes.items in
     let taken = is.taken in
     let root = growth.root in
@@ -257,10 +275,20 @@ branched_growth table most old growth place made made_values links is children l
               omega (
                 arith,
                 fits before.0,
-                taken.founded.buffers before.1 bound (ap (λ (f : Found). bound_where_few table most (unfixed table) f.buffers) (sym found_is) ∙ is_bound),
+                taken.founded.buffers before.1 bound (ap (λ (f : Found). bound_of_buffer_windows table (unfixed table) f.buffers) (sym found_is) ∙ is_bound),
               );
         };
         nodes = omega (arith, size, is.room);
+        bytes = record {
+          are = omega (arith, bytes_is, taken.bytes.are, ap (λ (ns : List Node). tree_bytes ns) nodes_is, bytes_branched nodes made i place.unit open_is.within);
+          within = omega (
+            arith,
+            bytes_is,
+            is.bytes.2,
+            made_within table most (versions_of table place.unit) is.bytes.0 old.found.buffers place.fixed place.unit made made_values is.bytes.1
+                children.count (λ j low. children.each j low) valued,
+          );
+        };
       };
       more = omega (arith, size, is.free.2);
       kept = kept;
@@ -282,7 +310,7 @@ pub best_of_empty : (table : Table) (most : ℕ) (growth : Growth) → IsValidTa
     → Ends table most (record { arena = growth.arena; bound = growth.known.distortion; known = growth.known; found = growth.found })
 best_of_empty table most growth valid is none =
     ends_best table most growth.root growth.time growth.arena growth.known growth.found (heap_items growth.leaves) valid is.grown is.known
-    (root_under table growth.root growth.known is.root is.known) is.founded is.nodes
+    (root_under table growth.root growth.known is.root is.known) is.founded is.nodes growth.bytes is.bytes
     (λ leaf there. absurd (none_in leaf (subst (λ (xs : List (Reverse (ℕ × ℕ))). Contains xs leaf) none there)))
 
 pub best_of_least : (table : Table) (most : ℕ) (growth : Growth) (top : Reverse (ℕ × ℕ)) (left : List (Reverse (ℕ × ℕ))) → IsValidTable table → IsGrowth table most growth
@@ -290,7 +318,7 @@ pub best_of_least : (table : Table) (most : ℕ) (growth : Growth) (top : Revers
     → Ends table most (record { arena = growth.arena; bound = growth.known.distortion; known = growth.known; found = growth.found })
 best_of_least table most growth top left valid is taken least high =
     ends_best table most growth.root growth.time growth.arena growth.known growth.found (heap_items growth.leaves) valid is.grown is.known
-    (root_under table growth.root growth.known is.root is.known) is.founded is.nodes
+    (root_under table growth.root growth.known is.root is.known) is.founded is.nodes growth.bytes is.bytes
     (λ leaf there. at_or_above leaf (first_or_more top leaf left (Contains-permutation (heap_items growth.leaves) (top ∷ left) leaf taken there)))
   where
     at_or_above : (leaf : Reverse (ℕ × ℕ)) → (leaf ≡ top) ⊎ Contains left leaf → growth.known.distortion ≤ leaf.0.0

@@ -1,5 +1,5 @@
 -- How strong the bound of a plan is: what it is at least, with no version fixed.
-use Rattle.std.specs.Prelude.{◌≡◌, ◌≢◌, ℕ, ◌*◌, ◌<◌, ◌≤◌, nat_le, Bool, true, if◌then◌else◌, List, [], ◌∷◌, length, All, slice_index_or, Option, Some, None}
+use Rattle.std.specs.Prelude.{◌≡◌, ◌≢◌, ℕ, ◌*◌, ◌<◌, ◌≤◌, nat_le, Bool, true, List, [], ◌∷◌, length, All, slice_index_or, Some}
 use Rattle.std.specs.List.{list_all}
 use Rattle.stream_constants.specs.declared.decoder.TheConstants.{EB_UNIT_BYTES}
 use Rattle.version_table.specs.declared.table.Table.{Table}
@@ -8,7 +8,6 @@ use Rattle.dual_bounds.specs.declared.windows.Multiplier.{Multiplier}
 use Rattle.dual_bounds.specs.declared.windows.Window.{Window as PricedWindow}
 use Rattle.dual_bounds.specs.Bounds.{bound_of_value}
 use Rattle.dual_bounds.specs.Values.{value_of_multipliers, value_of_windows}
-use Rattle.buffer_windows.specs.declared.windows.BufferWindow.{BufferWindow as SeeingWindow}
 use Rattle.buffer_windows.specs.Bounds.{bound_of_buffer_windows}
 use Rattle.buffer_windows.specs.Charges.{OwnedUnit, owned_units}
 use Rattle.multiplier_search.specs.Single.{IsCandidate, IsFirstBest, dues_of}
@@ -16,8 +15,7 @@ use Rattle.multiplier_search.specs.Windows.{IsTried}
 use Rattle.bound_certificate.specs.declared.cert.Cert.{Cert}
 use Rattle.bound_certificate.specs.declared.cert.Node.{Node}
 use Rattle.bound_certificate.specs.declared.cert.Node.TheVariants.{Branch}
-use Rattle.certificate_checker.specs.Shown.{unfixed, windows_in}
-use Rattle.branch_plan.specs.declared.limits.TheConstants.{BUFFER_WINDOWS_IN_ALL, FEW_WINDOWS_MOST, NODES_WITH_MANY_WINDOWS_MOST}
+use Rattle.certificate_checker.specs.Shown.{unfixed}
 use Rattle.branch_plan.specs.declared.found.Found.{Found}
 
 -- the due times of a table's units
@@ -36,18 +34,6 @@ IsAtLeastEachPair table bound =
     (first other : Multiplier) → IsFirstBest table (unfixed table) (unit_dues table) first → IsCandidate (unit_dues table) other → other.due ≢ first.due
     → bound_of_value (value_of_multipliers table (unfixed table) (other ∷ first ∷ [])) ≤ bound
 
--- where many nodes are allowed, each node has two windows at most, so that a certificate stays within its bytes
-abbrev pub HaveFewWindows : (nodes_most : ℕ) → List Node → Type 0
-HaveFewWindows nodes_most nodes =
-    NODES_WITH_MANY_WINDOWS_MOST < nodes_most → All (λ node. length (windows_in node) ≤ FEW_WINDOWS_MOST) nodes
-
--- the bound of windows that see the buffers, where these versions are fixed and each leaf of a tree of so many nodes may have them
-unfoldable pub bound_where_few : Table → (nodes_most : ℕ) → (fixed : List (Option ℕ)) → List SeeingWindow → Option ℕ
-bound_where_few table nodes_most fixed windows =
-    if nat_le (nodes_most * length windows) BUFFER_WINDOWS_IN_ALL
-    then bound_of_buffer_windows table fixed windows
-    else None
-
 -- a unit with its program's number and buffer, numbered over all programs in order; one that there isn't has no version
 abbrev pub owned_at : Table → (unit : ℕ) → OwnedUnit
 owned_at table unit = slice_index_or (owned_units table) unit (record { program = 0; vbv = 0; unit = record { due = 0; versions = record { items = [] } } })
@@ -62,8 +48,8 @@ BranchesOnFitting table (Branch unit) = unit_fits table unit ≡ true
 BranchesOnFitting table node = Unit {0}
 
 -- The bound is at least that of the windows of time that the search found for the root, with no version fixed. It is at least that of
--- the windows that see the buffers too, where these are few enough for each leaf and the tree branches only on units whose versions
--- all fit: one that doesn't fit is never sent, but a leaf where it is fixed has a bound of its own.
-pub record ReachesFound (table : Table) (nodes_most : ℕ) (found : Found) (cert : Cert) : Type 0 where
+-- the windows that see the buffers too, where the tree branches only on units whose versions all fit: one that doesn't fit is never
+-- sent, but a leaf where it is fixed has a bound of its own.
+pub record ReachesFound (table : Table) (found : Found) (cert : Cert) : Type 0 where
   pub time : bound_of_value (value_of_windows table (unfixed table) found.time.items) ≤ cert.bound
-  pub buffers : All (BranchesOnFitting table) cert.nodes → (bound : ℕ) → bound_where_few table nodes_most (unfixed table) found.buffers ≡ Some bound → bound ≤ cert.bound
+  pub buffers : All (BranchesOnFitting table) cert.nodes → (bound : ℕ) → bound_of_buffer_windows table (unfixed table) found.buffers ≡ Some bound → bound ≤ cert.bound

@@ -8,3 +8,4 @@ pub mod Known
 pub mod Leaves
 pub mod Root
 pub mod Valued
+pub mod Whole

@@ -1,14 +1,16 @@
-ghost use Rattle.std.specs.Prelude.{◌≡◌, ◌+◌, ◌<◌, ◌≤◌, ℕ, List, [], length, IfOk, OnOk};
+ghost use Rattle.std.specs.Prelude.{◌≡◌, ◌+◌, ◌<◌, ◌≤◌, ℕ, List, [], length, IfOk, IfSome, OnOk};
 ghost use Rattle.std.specs.BinaryHeap.{heap_items};
 ghost use Rattle.version_table.specs.declared.limits.TheConstants.{NODES_MOST};
 ghost use Rattle.version_table.specs.Table.{IsValidTable};
 ghost use Rattle.branch_plan.specs.Private.Branching.{Ends, EndsOrGrows, IsGrowth, IsTaken, IsWith};
-ghost use Rattle.branch_plan.specs.Private.Found.{IsSound};
+ghost use Rattle.dual_bounds.specs.declared.constants.TheConstants.{WINDOWS_MOST};
+ghost use Rattle.branch_plan.specs.Private.Found.{AreShared, IsSound};
 ghost use Rattle.branch_plan.specs.Private.Growth.{IsOrdered};
 ghost use Rattle.branch_plan.specs.Private.Known.{IsKnown};
 
 use crate::apart::Orders;
 use crate::arena::{Arena, Link, path_to};
+use crate::bytes::{has_room, node_bytes};
 use crate::changes::unit_at;
 use crate::children::{Place, with_branch};
 use crate::found::{Found, greater_bound};
@@ -40,6 +42,8 @@ pub(crate) struct Growth {
     pub time: u64,
     /// The windows that were found for the root.
     pub found: Found,
+    /// The bytes of its nodes in a certificate.
+    pub bytes: usize,
 }
 
 /// A tree that isn't branched any more.
@@ -60,12 +64,12 @@ pub(crate) struct Ended {
 pub(crate) enum Step {
     /// A leaf was branched.
     Grown(Growth),
-    /// The bound has come up to the distortion, or a branch more would take the tree past its nodes.
+    /// The bound has come up to the distortion, or a branch more would take the tree past its nodes or its bytes.
     Ended(Ended),
 }
 
 /// The tree that is branched at its leaf of least bound, one unit at a time, until its bound has come up to the best distortion
-/// that is known or the next branch would take it past so many nodes. Fails only for want of memory.
+/// that is known or the next branch would take it past so many nodes, or past a certificate's bytes. Fails only for want of memory.
 pub(crate) fn branched(
     alloc: Global,
     table: &Table,
@@ -81,6 +85,7 @@ pub(crate) fn branched(
     requires found { IsSound table.now nodes found }
     requires some_nodes { 1 ≤ nodes }
     requires nodes { nodes ≤ NODES_MOST }
+    requires relaxation { IfSome relaxation (λ own. AreShared table.now nodes WINDOWS_MOST) }
     ensures run { run.new.table ≡ table.now }
     ensures ends { IfOk result (Ends table.now nodes) }
     ensures found { IfOk result (λ ended. ended.found ≡ found) }
@@ -135,7 +140,7 @@ fn rooted(
 {
     let fixed = nothing_fixed(alloc, table)?;
     let time = root_bound(table, &fixed, &found.time, &known);
-    let root = greater_bound(table, &fixed, &found, &known, time, nodes);
+    let root = greater_bound(table, &fixed, &found, &known, time);
     let asked = Asked {
         floor: root,
         nodes,
@@ -155,6 +160,7 @@ fn rooted(
     )?;
     let mut leaves = no_leaves(alloc);
     add_if_open(&mut leaves, leaf.bound, 0)?;
+    let bytes = node_bytes(&leaf.node);
     let mut arena = Arena {
         nodes: Vec::new(alloc),
         links: Vec::new(alloc),
@@ -175,6 +181,7 @@ fn rooted(
         root,
         time,
         found,
+        bytes,
     })
 }
 
@@ -197,7 +204,7 @@ pub(crate) fn add_if_open(
     }
 }
 
-/// Branches the leaf of least bound, where its bound is below the distortion and the nodes are enough.
+/// Branches the leaf of least bound, where its bound is below the distortion, and nodes and bytes are enough.
 fn branch_least(
     alloc: Global,
     table: &Table,
@@ -211,6 +218,7 @@ fn branch_least(
     requires run { run.old.table ≡ table.now }
     requires nodes { nodes ≤ NODES_MOST }
     requires grown { IsGrowth table.now nodes growth }
+    requires relaxation { IfSome relaxation (λ own. AreShared table.now nodes WINDOWS_MOST) }
     ensures run { run.new.table ≡ table.now }
     ensures step { IfOk result (EndsOrGrows table.now nodes growth) }
 {
@@ -240,6 +248,7 @@ fn as_best(growth: Growth) -> Ended
         root: _,
         time: _,
         found,
+        bytes: _,
     } = growth;
     Ended {
         arena,
@@ -249,7 +258,28 @@ fn as_best(growth: Growth) -> Ended
     }
 }
 
-/// Branches this leaf, whose bound is the least and below the distortion, where the nodes are enough.
+/// The tree whose nodes or bytes are spent, of which this is the least bound.
+fn as_spent(growth: Growth, bound: u64) -> Ended
+    ensures { result ≡ record { arena = growth.arena; bound = bound; known = growth.known; found = growth.found } }
+{
+    let Growth {
+        arena,
+        leaves: _,
+        known,
+        root: _,
+        time: _,
+        found,
+        bytes: _,
+    } = growth;
+    Ended {
+        arena,
+        bound,
+        known,
+        found,
+    }
+}
+
+/// Branches this leaf, whose bound is the least and below the distortion, where nodes and bytes are enough.
 fn branch_at(
     alloc: Global,
     table: &Table,
@@ -265,6 +295,7 @@ fn branch_at(
     requires run { run.old.table ≡ table.now }
     requires nodes { nodes ≤ NODES_MOST }
     requires taken { IsTaken table.now nodes growth bound number }
+    requires relaxation { IfSome relaxation (λ own. AreShared table.now nodes WINDOWS_MOST) }
     ensures run { run.new.table ≡ table.now }
     ensures step { IfOk result (EndsOrGrows table.now nodes growth) }
 {
@@ -275,26 +306,15 @@ fn branch_at(
     };
     let versions = unit_at(table, unit as usize).versions.len();
     if growth.arena.nodes.len() + versions > nodes as usize {
-        let Growth {
-            arena,
-            leaves: _,
-            known,
-            root: _,
-            time: _,
-            found,
-        } = growth;
-        Ok(Step::Ended(Ended {
-            arena,
-            bound,
-            known,
-            found,
-        }))
-    } else {
-        let place = Place {
-            number,
-            unit,
-            fixed,
-        };
-        Ok(Step::Grown(with_branch(alloc, table, relaxation, run, growth, place, nodes)?))
+        return Ok(Step::Ended(as_spent(growth, bound)));
     }
+    if !has_room(table, &growth, fixed.len(), versions) {
+        return Ok(Step::Ended(as_spent(growth, bound)));
+    }
+    let place = Place {
+        number,
+        unit,
+        fixed,
+    };
+    Ok(Step::Grown(with_branch(alloc, table, relaxation, run, growth, place, nodes)?))
 }

@@ -1,4 +1,4 @@
-ghost use Rattle.std.specs.Prelude.{◌≡◌, ◌+◌, ◌<◌, ◌≤◌, ◌^◌, true, false, [], length, None, IfOk, OnOk, ◌≤ℤ◌};
+ghost use Rattle.std.specs.Prelude.{◌≡◌, ◌+◌, ◌<◌, ◌≤◌, ◌^◌, ℕ, true, false, [], length, None, IfOk, IfSome, OnOk, ◌≤ℤ◌};
 ghost use Rattle.std.specs.BinaryHeap.{heap_items};
 ghost use Rattle.version_table.specs.declared.limits.TheConstants.{NODES_MOST, VERSIONS_MOST};
 ghost use Rattle.version_table.specs.Table.{IsValidTable};
@@ -7,9 +7,9 @@ ghost use Rattle.dual_bounds.specs.Values.{value_of_windows};
 ghost use Rattle.multiplier_search.specs.Windows.{AreSearched};
 ghost use Rattle.certificate_checker.specs.Shown.{fix, versions_of};
 ghost use Rattle.multiplier_search.specs.Buffered.{AreSearchedBuffered};
-ghost use Rattle.branch_plan.specs.declared.limits.TheConstants.{FEW_WINDOWS_MOST, NODES_WITH_MANY_WINDOWS_MOST};
+ghost use Rattle.dual_bounds.specs.declared.constants.TheConstants.{WINDOWS_MOST};
 ghost use Rattle.branch_plan.specs.Private.Branching.{AreChildren, AreLinkedBehind, IsBranched, IsPlace, IsWithChild};
-ghost use Rattle.branch_plan.specs.Private.Found.{IsReached, IsReachedAbove, time_of};
+ghost use Rattle.branch_plan.specs.Private.Found.{AreShared, IsReached, IsReachedAbove, time_of};
 ghost use Rattle.branch_plan.specs.Private.Growth.{IsOrdered};
 ghost use Rattle.branch_plan.specs.Private.Known.{IsKnown};
 ghost use Rattle.branch_plan.specs.Private.Leaves.{IsFreeUnit};
@@ -18,13 +18,15 @@ ghost use Rattle.branch_plan.specs.declared.values.TheConstants.{UNKNOWN};
 
 use crate::arena::Link;
 use crate::branching::{Growth, add_if_open};
+use crate::bytes::{node_bytes, nodes_bytes};
 use crate::changes::unit_at;
 use crate::fitting::kept_bound;
 use crate::found::Found;
 use crate::known::Known;
 use crate::leaves::{Asked, Leaf, leaf_on, sees};
-use crate::limits::{NODES_WITH_MANY_WINDOWS_MOST, RELAXED_MOST};
+use crate::limits::{BRANCH_BYTES, RELAXED_MOST};
 use crate::open::OpenLeaves;
+use crate::root::relaxed_windows;
 use crate::values::{KeptValue, Values, values_with};
 use bound_certificate::Node;
 use buffer_windows::BufferWindows;
@@ -73,6 +75,7 @@ pub(crate) fn with_branch(
     requires run { run.old.table ≡ table.now }
     requires nodes { nodes ≤ NODES_MOST }
     requires place { IsPlace table.now nodes growth place }
+    requires relaxation { IfSome relaxation (λ own. AreShared table.now nodes WINDOWS_MOST) }
     ensures run { run.new.table ≡ table.now }
     ensures branched { IfOk result (IsBranched table.now nodes growth) }
 {
@@ -83,6 +86,7 @@ pub(crate) fn with_branch(
         root,
         time,
         found,
+        bytes,
     } = growth;
     let number = place.number;
     let unit = place.unit;
@@ -119,6 +123,8 @@ pub(crate) fn with_branch(
         values,
     )?;
     link_children(&mut arena.links, number, unit, made.len() as u32)?;
+    let kept = bytes - node_bytes(&arena.nodes[number as usize]);
+    let bytes = kept + BRANCH_BYTES + nodes_bytes(made.as_slice());
     arena.nodes[number as usize] = Node::Branch { unit };
     arena.nodes.append(&mut made)?;
     arena.values.append(&mut made_values)?;
@@ -129,6 +135,7 @@ pub(crate) fn with_branch(
         root: asked.floor,
         time,
         found,
+        bytes,
     })
 }
 
@@ -196,9 +203,10 @@ fn children_of(
     requires fixed { FixesVersions table.now place.fixed }
     requires free { IsFreeUnit table.now place.fixed place.unit }
     requires windows { AreSearched windows.now.items }
-    requires few_windows { NODES_WITH_MANY_WINDOWS_MOST < asked.nodes → length windows.now.items ≤ FEW_WINDOWS_MOST }
+    requires few_windows { AreShared table.now asked.nodes (length windows.now.items) }
+    requires relaxation { IfSome relaxation (λ own. AreShared table.now asked.nodes WINDOWS_MOST) }
     requires buffers { AreSearchedBuffered table.now buffers.now }
-    requires floor { IsReachedAbove table.now asked.nodes place.fixed place.unit windows.now.items buffers.now asked.floor }
+    requires floor { IsReachedAbove table.now place.fixed place.unit windows.now.items buffers.now asked.floor }
     requires values { AreKept table.now place.fixed windows.now.items buffers.now values }
     requires first { first ≤ NODES_MOST }
     ensures run { run.new.table ≡ table.now }
@@ -214,7 +222,7 @@ fn children_of(
         unit,
         mut fixed,
     } = place;
-    let relaxed = is_cheap(fixed.len(), first, asked.nodes);
+    let relaxed = is_relaxed(relaxation, fixed.len(), first);
     let own_asked = Asked {
         quick: asked.quick && !relaxed,
         ..asked
@@ -241,13 +249,10 @@ fn children_of(
     Ok(children)
 }
 
-/// Whether nodes from this number on have relaxations of their own: the first ones of a search, as many as are cheap, where a node
-/// may have many windows.
-fn is_cheap(units: usize, first: u32, nodes: u32) -> bool
-    ensures { result ≡ true → nodes ≤ NODES_WITH_MANY_WINDOWS_MOST }
-{
-    nodes <= NODES_WITH_MANY_WINDOWS_MOST
-        && (units as u64).saturating_mul(u64::from(first)) <= RELAXED_MOST
+/// Whether nodes from this number on have relaxations of their own: the first ones of a search, as many as are cheap, whatever nodes it
+/// may have.
+fn is_relaxed(relaxation: Option<&LinearRelaxation>, units: usize, first: u32) -> bool {
+    relaxation.is_some() && (units as u64).saturating_mul(u64::from(first)) <= RELAXED_MOST
 }
 
 /// What is fixed, with a version of one unit fixed too.
@@ -274,13 +279,15 @@ fn windows_for(
     requires windows { AreSearched windows.now.items }
     ensures searched { IfOk result (λ own. AreSearched own.items) }
     ensures value { IfOk result (λ own. value_of_windows table.now fixed.now windows.now.items ≤ℤ value_of_windows table.now fixed.now own.items) }
-    ensures few { relaxed ≡ false → IfOk result (λ own. own.items ≡ windows.now.items) }
+    ensures same { relaxed ≡ false → IfOk result (λ own. own.items ≡ windows.now.items) }
+    ensures few { (nodes : ℕ) → AreShared table.now nodes (length windows.now.items) → IfSome relaxation.entry (λ own. AreShared table.now nodes WINDOWS_MOST)
+        → IfOk result (λ own. AreShared table.now nodes (length own.items)) }
 {
     if !relaxed {
         return Ok(copied(windows.as_slice()));
     }
     match relaxation {
-        Some(relaxation) => relaxation.windows(alloc, table, fixed, windows),
+        Some(relaxation) => relaxed_windows(alloc, table, relaxation, fixed, windows),
         None => Ok(copied(windows.as_slice())),
     }
 }
@@ -320,9 +327,9 @@ fn with_child(
     requires order { IsOrdered (heap_items children.leaves) }
     requires fixed { FixesVersions table.now fixed.now }
     requires windows { AreSearched windows.items }
-    requires few_windows { NODES_WITH_MANY_WINDOWS_MOST < asked.nodes → length windows.items ≤ FEW_WINDOWS_MOST }
+    requires few_windows { AreShared table.now asked.nodes (length windows.items) }
     requires buffers { AreSearchedBuffered table.now buffers.now }
-    requires floor { IsReached table.now asked.nodes fixed.now windows.items buffers.now asked.floor }
+    requires floor { IsReached table.now fixed.now windows.items buffers.now asked.floor }
     requires values { AreKept table.now fixed.now windows.items buffers.now values }
     ensures run { run.new.table ≡ table.now }
     ensures order { IfOk result (λ more. IsOrdered (heap_items more.leaves)) }

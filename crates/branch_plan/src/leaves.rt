@@ -9,13 +9,12 @@ ghost use Rattle.multiplier_search.specs.Windows.{AreSearched};
 ghost use Rattle.buffer_windows.specs.declared.windows.BufferWindow.{BufferWindow as SeeingWindow};
 ghost use Rattle.bound_certificate.specs.declared.cert.Node.TheVariants.{BufferWindow};
 ghost use Rattle.multiplier_search.specs.Buffered.{AreSearchedBuffered};
-ghost use Rattle.branch_plan.specs.Bound.{bound_where_few};
-ghost use Rattle.branch_plan.specs.declared.limits.TheConstants.{FEW_WINDOWS_MOST, NODES_WITH_MANY_WINDOWS_MOST};
+ghost use Rattle.buffer_windows.specs.Bounds.{bound_of_buffer_windows};
 ghost use Rattle.certificate_checker.specs.Faults.{IsSettled, LeavesOne};
 ghost use Rattle.certificate_checker.specs.Shown.{choice_left};
 ghost use Rattle.branch_plan.specs.Private.Known.{IsKnown};
 ghost use Rattle.branch_plan.specs.Private.Changes.{unit_at};
-ghost use Rattle.branch_plan.specs.Private.Found.{IsNoLower, IsReached};
+ghost use Rattle.branch_plan.specs.Private.Found.{AreShared, IsNoLower, IsReached};
 ghost use Rattle.branch_plan.specs.Private.Leaves.{IsFreeUnit, IsLeafOn};
 ghost use Rattle.branch_plan.specs.Private.Valued.{AreKept, IsSeenKept, IsTimeKept, IsValuedBy};
 ghost use Rattle.branch_plan.specs.declared.values.TheConstants.{UNKNOWN};
@@ -74,9 +73,9 @@ pub(crate) fn leaf_on(
     requires known { IsKnown table.now known }
     requires fixed { FixesVersions table.now fixed.now }
     requires windows { AreSearched windows.items }
-    requires few_windows { NODES_WITH_MANY_WINDOWS_MOST < asked.nodes → length windows.items ≤ FEW_WINDOWS_MOST }
+    requires few_windows { AreShared table.now asked.nodes (length windows.items) }
     requires buffers { AreSearchedBuffered table.now buffers.now }
-    requires floor { IsReached table.now asked.nodes fixed.now windows.items buffers.now asked.floor }
+    requires floor { IsReached table.now fixed.now windows.items buffers.now asked.floor }
     requires values { AreKept table.now fixed.now windows.items buffers.now values }
     ensures run { run.new.table ≡ table.now }
     ensures leaf { IfOk result (IsLeafOn table.now asked.nodes fixed.now known.distortion) }
@@ -199,16 +198,16 @@ fn priced_leaf(
     requires known { IsKnown table.now known }
     requires fixed { FixesVersions table.now fixed.now }
     requires windows { AreSearched windows.items }
-    requires few_windows { NODES_WITH_MANY_WINDOWS_MOST < asked.nodes → length windows.items ≤ FEW_WINDOWS_MOST }
+    requires few_windows { AreShared table.now asked.nodes (length windows.items) }
     requires buffers { AreSearchedBuffered table.now buffers.now }
-    requires floor { IsReached table.now asked.nodes fixed.now windows.items buffers.now asked.floor }
+    requires floor { IsReached table.now fixed.now windows.items buffers.now asked.floor }
     requires values { AreKept table.now fixed.now windows.items buffers.now values }
     requires free { (unit : ℕ) × IsFreeUnit table.now fixed.now unit }
     ensures leaf { IfOk result (IsLeafOn table.now asked.nodes fixed.now known.distortion) }
     ensures floor { IfOk result (λ leaf. IsNoLower asked.floor leaf.bound) }
     ensures valued { IfOk result (λ leaf. IsValuedBy table.now buffers.now fixed.now leaf.node leaf.values) }
 {
-    match seen_valued(table, fixed, buffers, asked.nodes, values.seen) {
+    match seen_valued(table, fixed, buffers, values.seen) {
         Some(seen) => closer_leaf(
             alloc,
             table,
@@ -249,12 +248,12 @@ fn closer_leaf(
     requires known { IsKnown table.now known }
     requires fixed { FixesVersions table.now fixed.now }
     requires windows { AreSearched windows.items }
-    requires few_windows { NODES_WITH_MANY_WINDOWS_MOST < asked.nodes → length windows.items ≤ FEW_WINDOWS_MOST }
+    requires few_windows { AreShared table.now asked.nodes (length windows.items) }
     requires buffers { AreSearchedBuffered table.now buffers.now }
-    requires floor { IsReached table.now asked.nodes fixed.now windows.items buffers.now asked.floor }
+    requires floor { IsReached table.now fixed.now windows.items buffers.now asked.floor }
     requires time { IsTimeKept table.now fixed.now windows.items time }
     requires free { (unit : ℕ) × IsFreeUnit table.now fixed.now unit }
-    requires bound { bound_where_few table.now asked.nodes fixed.now buffers.now ≡ Some seen.bound }
+    requires bound { bound_of_buffer_windows table.now fixed.now buffers.now ≡ Some seen.bound }
     requires seen { IsSeenKept table.now fixed.now buffers.now seen.kept }
     ensures leaf { IfOk result (IsLeafOn table.now asked.nodes fixed.now known.distortion) }
     ensures floor { IfOk result (λ leaf. IsNoLower asked.floor leaf.bound) }
@@ -330,7 +329,7 @@ fn time_leaf(
     requires known { IsKnown table.now known }
     requires fixed { FixesVersions table.now fixed.now }
     requires windows { AreSearched windows.now.items }
-    requires few_windows { NODES_WITH_MANY_WINDOWS_MOST < nodes → length windows.now.items ≤ FEW_WINDOWS_MOST }
+    requires few_windows { AreShared table.now nodes (length windows.now.items) }
     requires free { (unit : ℕ) × IsFreeUnit table.now fixed.now unit }
     requires time { IsTimeKept table.now fixed.now windows.now.items time }
     ensures leaf { IfOk result (IsLeafOn table.now nodes fixed.now known.distortion) }

@@ -7,6 +7,7 @@
 mod apart;
 mod arena;
 mod branching;
+mod bytes;
 mod changes;
 mod children;
 mod corners;
@@ -25,6 +26,7 @@ mod owing;
 mod planner;
 mod root;
 mod values;
+mod whole;
 
 pub use found::Found;
 pub use planner::{PlanFault, Planned, Search, plan};

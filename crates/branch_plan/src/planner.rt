@@ -4,7 +4,7 @@ ghost use Rattle.version_table.specs.declared.limits.TheConstants.{EVALUATIONS_M
 ghost use Rattle.bound_certificate.specs.Reading.{IsWritable};
 ghost use Rattle.certificate_checker.specs.Checked.{IsFaultless};
 ghost use Rattle.certificate_checker.specs.Faults.{IsHeadRight};
-ghost use Rattle.branch_plan.specs.Bound.{HaveFewWindows, IsAtLeastEachPair, IsAtLeastEachTried, ReachesFound};
+ghost use Rattle.branch_plan.specs.Bound.{IsAtLeastEachPair, IsAtLeastEachTried, ReachesFound};
 ghost use Rattle.branch_plan.specs.Changes.{EndsBestAlone, GainsByRounds};
 ghost use Rattle.branch_plan.specs.declared.planner.Search.TheVariants.{Budget, Optimal};
 ghost use Rattle.branch_plan.specs.Plan.{BoundsAll, IsMissOfSmallest, IsNoWorseThanLevels, SaysOptimal, ShowsItsBound, SmallestIsScheduled};
@@ -18,7 +18,9 @@ use crate::known::{best_premise, copied};
 use crate::owed::after_owed;
 use crate::owing::{filled_first, with_found};
 use crate::root::relaxation_for;
+use crate::whole::each_may_have;
 use bound_certificate::Cert;
+use dual_bounds::constants::WINDOWS_MOST;
 use dual_bounds::nothing_fixed;
 use list_types::OutOfMemory;
 use slot_rule::{Miss, SlotRun};
@@ -95,13 +97,12 @@ pub fn plan(
 
     // What the nodes are.
     ensures few_nodes { IfOk result (λ planned. length planned.cert.nodes ≤ nodes) }
-    ensures few_windows { IfOk result (λ planned. HaveFewWindows nodes planned.cert.nodes) }
     ensures branches { IfOk result (λ planned. All (BranchesOnMany table.now) planned.cert.nodes) }
     ensures spent { IfOk result (λ planned. planned.search ≡ Budget → IsSpent table.now nodes planned.cert) }
     ensures enough { AreEnough table.now nodes → IfOk result (λ planned. planned.search ≡ Optimal) }
 
     // How good bound and choice are at least.
-    ensures reached { IfOk result (λ planned. ReachesFound table.now nodes planned.found planned.cert) }
+    ensures reached { IfOk result (λ planned. ReachesFound table.now planned.found planned.cert) }
     ensures tried { IfOk result (λ planned. IsAtLeastEachTried table.now planned.cert.bound) }
     ensures pairs { IfOk result (λ planned. IsAtLeastEachPair table.now planned.cert.bound) }
     ensures no_worse { IfOk result (λ planned. IsNoWorseThanLevels table.now planned.cert.distortion) }
@@ -114,9 +115,10 @@ pub fn plan(
     let debt = debt_of(table, fixed.len(), evaluations, premise.distortion);
     let owing = filled_first(alloc, table, &mut run, debt, premise)?;
     let best = copied(alloc, &owing.known)?;
-    let relaxation = relaxation_for(alloc, table, fixed.len(), nodes)?;
+    let relaxes = each_may_have(alloc, table, fixed.len(), nodes, WINDOWS_MOST)?;
+    let relaxation = relaxation_for(alloc, table, fixed.len(), relaxes)?;
     let relaxed = relaxation.as_ref();
-    let windows = found_windows(alloc, table, relaxed, &fixed, nodes)?;
+    let windows = found_windows(alloc, table, relaxed, &fixed, nodes, relaxes)?;
     let ended = branched(alloc, table, relaxed, &mut run, best, windows, nodes)?;
     let Ended {
         arena,

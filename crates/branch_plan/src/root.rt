@@ -1,4 +1,4 @@
-ghost use Rattle.std.specs.Prelude.{◌≡◌, ◌<◌, ◌≤◌, ◌^◌, ℕ, length, IfOk, ◌≤ℤ◌};
+ghost use Rattle.std.specs.Prelude.{◌≡◌, ◌<◌, ◌≤◌, ◌^◌, ℕ, true, false, length, IfOk, IfSome, ◌≤ℤ◌};
 ghost use Rattle.version_table.specs.Table.{IsValidTable};
 ghost use Rattle.dual_bounds.specs.declared.constants.TheConstants.{WINDOWS_MOST};
 ghost use Rattle.dual_bounds.specs.Bounds.{bound_of_value};
@@ -7,63 +7,100 @@ ghost use Rattle.dual_bounds.specs.Values.{value_of_windows};
 ghost use Rattle.multiplier_search.specs.Windows.{AreSearched, BeatEachTried};
 ghost use Rattle.certificate_checker.specs.Shown.{unfixed};
 ghost use Rattle.branch_plan.specs.Bound.{unit_dues};
-ghost use Rattle.branch_plan.specs.declared.limits.TheConstants.{FEW_WINDOWS_MOST, NODES_WITH_MANY_WINDOWS_MOST};
 ghost use Rattle.branch_plan.specs.Private.Known.{IsKnown};
 ghost use Rattle.branch_plan.specs.Private.Root.{BeatEachPair};
 
 use crate::known::Known;
-use crate::limits::{NODES_WITH_MANY_WINDOWS_MOST, RELAXED_MOST};
+use crate::limits::RELAXED_MOST;
+use dual_bounds::constants::WINDOWS_MOST;
 use dual_bounds::{Fixed, Windows, bound_of, window_value, windows_of};
 use list_types::OutOfMemory;
-use multiplier_search::{
-    LinearRelaxation, best_single, best_window, improve, relaxation as relaxation_of,
-};
+use multiplier_search::{LinearRelaxation, best_single, best_window, improve};
 use std::alloc::Global;
 use version_table::Table;
 
-/// The relaxation of a table of so many units, where a search of so many nodes asks it below the root too. Fails only for want of
-/// memory.
+/// The relaxation of a table of so many units, where the nodes below the root are asked for their own too: each leaf may have all
+/// windows of one, and the first nodes are cheap. Fails only for want of memory.
 pub(crate) fn relaxation_for(
     alloc: Global,
     table: &Table,
     units: usize,
-    nodes: u32,
+    relaxes: bool,
 ) -> Result<Option<LinearRelaxation>, OutOfMemory>
     requires valid { IsValidTable table.now }
+    ensures { IfOk result (λ made. IfSome made (λ relaxation. relaxes ≡ true)) }
 {
-    if nodes > NODES_WITH_MANY_WINDOWS_MOST || units as u64 > RELAXED_MOST {
+    if !relaxes || units as u64 > RELAXED_MOST {
         return Ok(None);
     }
     Ok(Some(LinearRelaxation::new(alloc, table)?))
 }
 
-/// The windows of a tree's root, in a search of so many nodes. Their value is at least that of each window that is tried
-/// alone, and of the first best multiplier with any other one. Where many nodes are allowed they are two at most. Fails only
-/// for want of memory.
+/// The windows of a tree's root, where each leaf may have all windows of a relaxation, or two. Their value is at least that of each
+/// window that is tried alone, and of the first best multiplier with any other one. Fails only for want of memory.
 pub(crate) fn root_windows(
     alloc: Global,
     table: &Table,
     relaxation: Option<&LinearRelaxation>,
     fixed: &Fixed,
-    nodes: u32,
+    relaxes: bool,
 ) -> Result<Windows, OutOfMemory>
     requires valid { IsValidTable table.now }
     requires fixed { FixesVersions table.now fixed.now }
     ensures searched { IfOk result (λ found. AreSearched found.items) }
-    ensures few { NODES_WITH_MANY_WINDOWS_MOST < nodes → IfOk result (λ found. length found.items ≤ FEW_WINDOWS_MOST) }
+    ensures most { IfOk result (λ found. length found.items ≤ WINDOWS_MOST) }
+    ensures few { relaxes ≡ false → IfOk result (λ found. length found.items ≤ 2) }
     ensures tried { IfOk result (λ found. BeatEachTried table.now fixed.now (unit_dues table.now) found.items) }
     ensures pairs { IfOk result (λ found. BeatEachPair table.now fixed.now found.items) }
 {
     let alone = best_window(alloc, table, fixed)?;
     let pair = best_pair(alloc, table, fixed)?;
     let start = of_greater_value(table, fixed, alone, pair);
-    if nodes > NODES_WITH_MANY_WINDOWS_MOST {
+    if !relaxes {
         return Ok(start);
     }
     match relaxation {
-        Some(relaxation) => relaxation.windows(alloc, table, fixed, &start),
-        None => relaxation_of(alloc, table, fixed, &start),
+        Some(relaxation) => relaxed_windows(alloc, table, relaxation, fixed, &start),
+        None => relaxed_once(alloc, table, fixed, &start),
     }
+}
+
+/// The windows of a relaxation where these versions are fixed, whose value is at least that of these. Fails only for want of memory.
+pub(crate) fn relaxed_windows(
+    alloc: Global,
+    table: &Table,
+    relaxation: &LinearRelaxation,
+    fixed: &Fixed,
+    start: &Windows,
+) -> Result<Windows, OutOfMemory>
+    requires valid { IsValidTable table.now }
+    requires fixed { FixesVersions table.now fixed.now }
+    requires searched { AreSearched start.now.items }
+    ensures searched { IfOk result (λ found. AreSearched found.items) }
+    ensures most { IfOk result (λ found. length found.items ≤ WINDOWS_MOST) }
+    ensures start { IfOk result (λ found. value_of_windows table.now fixed.now start.now.items ≤ℤ value_of_windows table.now fixed.now found.items) }
+{
+    let found = relaxation.windows(alloc, table, fixed, start)?;
+    prove!(found.len() <= WINDOWS_MOST);
+    Ok(found)
+}
+
+/// The same of a relaxation that nothing else is asked of.
+fn relaxed_once(
+    alloc: Global,
+    table: &Table,
+    fixed: &Fixed,
+    start: &Windows,
+) -> Result<Windows, OutOfMemory>
+    requires valid { IsValidTable table.now }
+    requires fixed { FixesVersions table.now fixed.now }
+    requires searched { AreSearched start.now.items }
+    ensures searched { IfOk result (λ found. AreSearched found.items) }
+    ensures most { IfOk result (λ found. length found.items ≤ WINDOWS_MOST) }
+    ensures start { IfOk result (λ found. value_of_windows table.now fixed.now start.now.items ≤ℤ value_of_windows table.now fixed.now found.items) }
+{
+    let relaxation = LinearRelaxation::new(alloc, table)?;
+    relaxed_windows(alloc, table, &relaxation, fixed, start)
 }
 
 /// The first best multiplier after one turn of the search, as windows.
@@ -71,7 +108,7 @@ fn best_pair(alloc: Global, table: &Table, fixed: &Fixed) -> Result<Windows, Out
     requires valid { IsValidTable table.now }
     requires fixed { FixesVersions table.now fixed.now }
     ensures searched { IfOk result (λ found. AreSearched found.items) }
-    ensures few { IfOk result (λ found. length found.items ≤ FEW_WINDOWS_MOST) }
+    ensures few { IfOk result (λ found. length found.items ≤ 2) }
     ensures pairs { IfOk result (λ found. BeatEachPair table.now fixed.now found.items) }
 {
     let first = best_single(alloc, table, fixed)?;
@@ -86,7 +123,7 @@ fn of_greater_value(table: &Table, fixed: &Fixed, a: Windows, b: Windows) -> Win
     requires first { AreSearched a.items }
     requires second { AreSearched b.items }
     ensures searched { AreSearched result.items }
-    ensures few { length a.items ≤ FEW_WINDOWS_MOST → length b.items ≤ FEW_WINDOWS_MOST → length result.items ≤ FEW_WINDOWS_MOST }
+    ensures few { length a.items ≤ 2 → length b.items ≤ 2 → length result.items ≤ 2 }
     ensures first { value_of_windows table.now fixed.now a.items ≤ℤ value_of_windows table.now fixed.now result.items }
     ensures second { value_of_windows table.now fixed.now b.items ≤ℤ value_of_windows table.now fixed.now result.items }
 {

@@ -16,7 +16,6 @@ ghost use Rattle.branch_plan.specs.Private.Valued.{AreKept, IsSeenBy, IsSeenKept
 
 use crate::changes::unit_at;
 use crate::fitting::owner_of;
-use crate::limits::BUFFER_WINDOWS_IN_ALL;
 use buffer_windows::{
     BufferWindows, bound_of_value as bound_of_byte_value, each_has_left, unit_cost as owned_cost,
     value_of_windows as value_of_buffer_windows,
@@ -220,23 +219,19 @@ fn in_time(value: i128) -> Valued
 }
 
 /// What windows that see the buffers come to where these versions are fixed: what is kept, and else by a pass over the table. None
-/// where they are too many for each leaf of a tree of so many nodes, or a unit has no version left.
+/// where a unit has no version left.
 pub(crate) fn seen_valued(
     table: &Table,
     fixed: &Fixed,
     buffers: &BufferWindows,
-    nodes: u32,
     kept: KeptValue,
 ) -> Option<Valued>
     requires valid { IsValidTable table.now }
     requires fixed { FixesVersions table.now fixed.now }
     requires searched { AreSearchedBuffered table.now buffers.now }
     requires kept { IsSeenKept table.now fixed.now buffers.now kept }
-    ensures { IsSeenBy table.now nodes fixed.now buffers.now result }
+    ensures { IsSeenBy table.now fixed.now buffers.now result }
 {
-    if nodes as usize * buffers.as_slice().len() > BUFFER_WINDOWS_IN_ALL {
-        return None;
-    }
     match kept.known() {
         Some(value) => Some(Valued {
             kept,
@@ -246,7 +241,7 @@ pub(crate) fn seen_valued(
     }
 }
 
-/// The same by a pass over the table, however many the windows are.
+/// The same by a pass over the table.
 fn seen_by_pass(table: &Table, fixed: &Fixed, buffers: &BufferWindows) -> Option<Valued>
     requires valid { IsValidTable table.now }
     requires fixed { FixesVersions table.now fixed.now }

@@ -1,12 +1,13 @@
 ghost use Rattle.std.specs.Prelude.{◌≤◌};
 ghost use Rattle.version_table.specs.declared.limits.TheConstants.{EVALUATIONS_MOST, NODES_MOST};
+ghost use Rattle.version_table.specs.Table.{IsValidTable};
 
 use branch_plan::{PlanFault, Search, plan};
 use slot_rule::Miss;
 use std::alloc::Global;
 use std::process::Abort;
 use std::test::Fail;
-use version_table::read_table;
+use version_table::{Table, read_table};
 
 /// What a plan comes to.
 #[derive(Clone, Copy, Debug, PartialEq)]
@@ -210,4 +211,55 @@ fn a_branch_closes_what_a_window_leaves(rt: HostRuntime) -> Result<(), Fail> {
         search: Search::Optimal,
     };
     assert_branched(&rt, rt.alloc(), text, 3, came, 3)
+}
+
+/// The text of a table of 24 units of three versions, eight in each of three programs, in slots that have room for some seven tenths of
+/// all first versions.
+fn some_units(alloc: Global) -> Result<Vec<u8>, Fail> {
+    let mut text = Vec::new(alloc);
+    text.extend_from_slice(b"remux table 1\nslot 9000\nnodes 1\nevaluations 0\n")?;
+    for program in 0..3_u32 {
+        text.extend_from_slice(b"program 112\n")?;
+        for k in 0..8_u32 {
+            let due = 13_500_000 + 360_000 * program + 1_080_000 * k;
+            let bytes = 13_000 + 11_000 * ((k + program) % 3) + 1_700 * (k % 5);
+            let line = format!(in alloc;
+                "unit {due} {bytes}:0 {}:{} {}:{}\n",
+                bytes * 3 / 5,
+                bytes * 2 + 900 * k,
+                bytes * 7 / 25,
+                bytes * 14 + 700 * program
+            )?;
+            text.extend_from_slice(line.as_bytes())?;
+        }
+    }
+    Ok(text)
+}
+
+/// The bound of a plan with at most so many nodes and one evaluation.
+fn bound_with(alloc: Global, table: &Table, nodes: u32) -> Result<u64, Fail>
+    requires valid { IsValidTable table.now }
+    requires some { 1 ≤ nodes }
+    requires few { nodes ≤ NODES_MOST }
+{
+    let planned = plan(alloc, table, nodes, 1)?;
+    Ok(planned.cert.bound)
+}
+
+#[test]
+fn more_nodes_give_no_lower_bound(rt: HostRuntime) -> Result<(), Fail> {
+    let alloc = rt.alloc();
+    let text = some_units(alloc)?;
+    let table = read_table(alloc, text.as_slice())?;
+    let bounds = [
+        bound_with(alloc, &table, 1)?,
+        bound_with(alloc, &table, 10)?,
+        bound_with(alloc, &table, 100)?,
+        bound_with(alloc, &table, 1_000)?,
+        bound_with(alloc, &table, 10_000)?,
+        bound_with(alloc, &table, 100_000)?,
+        bound_with(alloc, &table, 1_048_576)?,
+    ];
+    assert!(rt; bounds.iter().is_sorted());
+    Ok(())
 }

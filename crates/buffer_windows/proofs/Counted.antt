@@ -12,7 +12,7 @@ use Rattle.version_table.specs.declared.table.ProgramRow.{ProgramRow}
 use Rattle.version_table.specs.declared.table.Table.{Table}
 use Rattle.version_table.specs.Table.{audio_packets_of}
 use Rattle.dual_bounds.specs.declared.constants.TheConstants.{MARGIN_TICKS}
-use Rattle.dual_bounds.specs.Private.Counts.{SplitsBy}
+use Rattle.dual_bounds.specs.Packets.{SplitsBy}
 use Rattle.buffer_windows.specs.declared.windows.BufferWindow.{BufferWindow}
 use Rattle.buffer_windows.specs.Room.{audio_slots, fit_before, is_counted, longest_before, slots_taken}
 use Rattle.buffer_windows.specs.Windows.{stop}

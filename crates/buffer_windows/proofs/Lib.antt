@@ -8,6 +8,7 @@ mod Fronts
 pub mod Held
 mod LastDue
 mod NearWindows
+mod NoWindow
 mod OwnedCosts
 pub mod Parts
 pub mod PlainCosts

@@ -25,6 +25,7 @@ use Rattle.buffer_windows.specs.Charged.{in_packets}
 use Rattle.buffer_windows.specs.Private.Prices.{all_have_left, charged_by, cost_at, lesser, owned}
 use Rattle.buffer_windows.specs.Room.{buffer_room as room}
 use Rattle.buffer_windows.specs.Values.{version_cost as cost, least_owned_cost as least_cost, least_owned_costs as least_costs, version_price as price, value_of_buffer_windows as value_of_windows, versions_left, buffer_worth as worth}
+use Rattle.buffer_windows.proofs.Weights.{own}
 
 -- ---- one more window
 pub charged_none : (slot program due bytes : ℕ) → charged_by slot [] program due bytes ≡ 0
@@ -43,10 +44,6 @@ unfolding worth
 worth_next table windows i d within =
     let each : BufferWindow → ℤ = λ w. pos w.lambda *ℤ room table w in
     ap (fold ◌+ℤ◌ (pos 0)) (map_more each windows i d within) ∙ fold_push ◌+ℤ◌ (pos 0) (map each (take i windows)) (each (get_or windows i d))
-
-pub worth_none : (table : Table) → worth table [] ≡ pos 0
-unfolding worth
-worth_none table = refl
 
 -- ---- one more version
 -- the least of some numbers; none where there is none
@@ -140,11 +137,8 @@ pub left_is : (program vbv : ℕ) (unit : CodedUnit)
 left_is program vbv unit = any_left (λ version. nat_le version.bytes (EB_UNIT_BYTES * vbv)) unit.versions.items
 
 -- ---- one more unit
-abbrev owned_unit : (program vbv : ℕ) → CodedUnit → OwnedUnit
-owned_unit program vbv unit = record { program = program; vbv = vbv; unit = unit }
-
 owned_drop : (program vbv : ℕ) (units : List CodedUnit) (i : ℕ) (d : CodedUnit) → i < length units
-    → owned program vbv (drop i units) ≡ owned_unit program vbv (get_or units i d) ∷ owned program vbv (drop (i + 1) units)
+    → owned program vbv (drop i units) ≡ own program vbv (get_or units i d) ∷ owned program vbv (drop (i + 1) units)
 owned_drop program vbv units i d within = ap (owned program vbv) (drop_more units i d within)
 
 pub costs_more : (slot : ℕ) (windows : List BufferWindow) (program vbv : ℕ) (units : List CodedUnit) (fixed : List (Option ℕ)) (i : ℕ) (d : CodedUnit) (e : Option ℕ) → i < length units
@@ -154,9 +148,9 @@ pub costs_more : (slot : ℕ) (windows : List BufferWindow) (program vbv : ℕ) 
     + least_costs slot windows (owned program vbv (drop (i + 1) units)) (drop (i + 1) fixed)
 unfolding least_costs
 costs_more slot windows program vbv units fixed i d e within within' =
-    let own : OwnedUnit × Option ℕ → ℕ = λ (unit, entry). least_cost slot windows unit entry in
-    ap₂ (λ (us : List OwnedUnit) (es : List (Option ℕ)). sum_by own (zip us es)) (owned_drop program vbv units i d within) (drop_more fixed i e within')
-    ∙ sum_by-cons own (owned_unit program vbv (get_or units i d), get_or fixed i e) (zip (owned program vbv (drop (i + 1) units)) (drop (i + 1) fixed))
+    let cost_of : OwnedUnit × Option ℕ → ℕ = λ (unit, entry). least_cost slot windows unit entry in
+    ap₂ (λ (us : List OwnedUnit) (es : List (Option ℕ)). sum_by cost_of (zip us es)) (owned_drop program vbv units i d within) (drop_more fixed i e within')
+    ∙ sum_by-cons cost_of (own program vbv (get_or units i d), get_or fixed i e) (zip (owned program vbv (drop (i + 1) units)) (drop (i + 1) fixed))
 
 pub costs_none : (slot : ℕ) (windows : List BufferWindow) (fixed : List (Option ℕ)) → least_costs slot windows [] fixed ≡ 0
 unfolding least_costs
@@ -221,20 +215,20 @@ owned_in slot windows programs i program fixed within is names units n front bac
     let names' : AllZip NamesVersion (program.units ++ others) fixed = subst (λ (whole : List CodedUnit). AllZip NamesVersion whole fixed) split names in
     let first : front ≡ take (length program.units) fixed = front-is ∙ ap (λ k. take k fixed) long in
     let second : back ≡ drop (length program.units) fixed = back-is ∙ ap (λ k. drop k fixed) long in
-    let own = owned i program.vbv program.units in
+    let ours = owned i program.vbv program.units in
     let rest = owned_from (i + 1) (drop (i + 1) programs) in
-    let size : length (owned i program.vbv program.units) ≡ length program.units = length-map program.units (owned_unit i program.vbv) in
+    let size : length (owned i program.vbv program.units) ≡ length program.units = length-map program.units (own i program.vbv) in
     let cost : OwnedUnit × Option ℕ → ℕ = λ (unit, entry). least_cost slot windows unit entry in
-    let pairs : zip (owned_from i (drop i programs)) fixed ≡ zip own (take (length program.units) fixed) ++ zip rest (drop (length program.units) fixed) =
-    ap (λ (us : List OwnedUnit). zip us fixed) (owned_rest-more programs i program within is) ∙ zip_in_parts own rest fixed
-    ∙ ap (λ k. zip own (take k fixed) ++ zip rest (drop k fixed)) size in
+    let pairs : zip (owned_from i (drop i programs)) fixed ≡ zip ours (take (length program.units) fixed) ++ zip rest (drop (length program.units) fixed) =
+    ap (λ (us : List OwnedUnit). zip us fixed) (owned_rest-more programs i program within is) ∙ zip_in_parts ours rest fixed
+    ∙ ap (λ k. zip ours (take k fixed) ++ zip rest (drop k fixed)) size in
     rw (units-is, first, second)
     (record {
       enough = omega (arith, names_length (program.units ++ others) fixed names', length-append program.units others);
       of_units = names_first program.units others fixed names';
       of_others = names_others program.units others fixed names';
-      total = ap (sum_by cost) pairs ∙ sum_by-append cost (zip own (take (length program.units) fixed)) (zip rest (drop (length program.units) fixed));
-      left = ap (list_all has_left) pairs ∙ all_in_parts has_left (zip own (take (length program.units) fixed)) (zip rest (drop (length program.units) fixed));
+      total = ap (sum_by cost) pairs ∙ sum_by-append cost (zip ours (take (length program.units) fixed)) (zip rest (drop (length program.units) fixed));
+      left = ap (list_all has_left) pairs ∙ all_in_parts has_left (zip ours (take (length program.units) fixed)) (zip rest (drop (length program.units) fixed));
     })
 
 pub owned_units-is : (table : Table) → owned_units table ≡ owned_from 0 (drop 0 table.programs)

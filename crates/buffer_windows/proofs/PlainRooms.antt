@@ -189,7 +189,8 @@ within_kept slot window (packet ∷ packets) some short =
     let test : AudioPacket → Bool = λ p. is_within window.from window.due p.due in
     let counted = is_counted slot (without_buffers slot window) in
     elim (cases_Bool (is_counted slot (without_buffers slot window) packet))
-    as (λ _. count_by (λ p. is_within window.from window.due p.due) (packet ∷ packets) ≤ count_by (λ p. is_within window.from window.due p.due) (filter (is_counted slot (without_buffers slot window)) (packet ∷ packets))) [
+    as (λ _. count_by (λ p. is_within window.from window.due p.due) (packet ∷ packets)
+    ≤ count_by (λ p. is_within window.from window.due p.due) (filter (is_counted slot (without_buffers slot window)) (packet ∷ packets))) [
       | inl yes_is ↦ rw yes_is
           (omega (
             arith,

@@ -96,7 +96,9 @@ done_in_time : (bytes work slot before here due last tail : ℕ) → bytes ≤ w
     → bytes ≤ SUBTICKS_PER_TICK * (last - MARGIN_TICKS - tail * slot)
 done_in_time bytes work slot before here due last tail most early upto behind =
     let parts : (before + here) * slot ≡ before * slot + here * slot = add-mul before here slot in
-    let drained : slot_subticks slot * here ≡ SUBTICKS_PER_TICK * (here * slot) = mul_assoc SUBTICKS_PER_TICK slot here ∙ ap (λ n. SUBTICKS_PER_TICK * n) (let turned : slot * here ≡ here * slot = omega arith in turned) in
+    let turned : slot * here ≡ here * slot = omega arith in
+    let drained : slot_subticks slot * here ≡ SUBTICKS_PER_TICK * (here * slot) =
+    mul_assoc SUBTICKS_PER_TICK slot here ∙ ap (λ n. SUBTICKS_PER_TICK * n) turned in
     let fewer : tail * slot ≤ before * slot = mul-le-mul_right slot behind in
     omega arith
 

@@ -87,11 +87,16 @@ sum-payloads bytes =
       sum_by-replicate (λ x. x) ((bytes - 1) / PAYLOAD_BYTES) PAYLOAD_BYTES,
     )
 
+-- what is picked for a packet of a program that is due then
+abbrev pick_due : (slot : ℕ) → BufferWindow → (program due : ℕ) → (whole part : ℕ) → ℕ
+pick_due slot window program due whole part =
+    pick (nat_le due window.due) (is_fresh slot window due) (nat_le (stop slot due) window.tail) (is_held slot window program due) whole part
+
 pieces_weight : (slot : ℕ) (window : BufferWindow) (program item due piece : ℕ) (list : List ℕ)
     → sum_by (video_weight slot window program) (map (λ (n, payload). piece_of item due n payload) (enumerate_from piece list))
-    ≡ pick (nat_le due window.due) (is_fresh slot window due) (nat_le (stop slot due) window.tail) (is_held slot window program due) (PAYLOAD_BYTES * length list) (sum list)
+    ≡ pick_due slot window program due (PAYLOAD_BYTES * length list) (sum list)
 pieces_weight slot window program item due piece [] =
-    let none : 0 ≡ pick (nat_le due window.due) (is_fresh slot window due) (nat_le (stop slot due) window.tail) (is_held slot window program due) 0 0 =
+    let none : 0 ≡ pick_due slot window program due 0 0 =
     omega (arith, pick-none (nat_le due window.due) (is_fresh slot window due) (nat_le (stop slot due) window.tail) (is_held slot window program due)) in none
 pieces_weight slot window program item due piece (payload ∷ list) =
     let within = nat_le due window.due in
@@ -103,12 +108,12 @@ pieces_weight slot window program item due piece (payload ∷ list) =
     let total : payload + sum list ≡ sum (payload ∷ list) = omega (arith, sum_by-cons (λ x. x) payload list) in
     sum_by-cons (video_weight slot window program) (piece_of item due piece payload) (map (λ (n, payload). piece_of item due n payload) (enumerate_from (piece + 1) list))
     ∙ ap (λ n. video_weight slot window program (piece_of item due piece payload) + n) (pieces_weight slot window program item due (piece + 1) list)
-    ∙ (let joined : pick (nat_le due window.due) (is_fresh slot window due) (nat_le (stop slot due) window.tail) (is_held slot window program due) PAYLOAD_BYTES payload
-    + pick (nat_le due window.due) (is_fresh slot window due) (nat_le (stop slot due) window.tail) (is_held slot window program due) (PAYLOAD_BYTES * length list) (sum list)
-    ≡ pick (nat_le due window.due) (is_fresh slot window due) (nat_le (stop slot due) window.tail) (is_held slot window program due) (PAYLOAD_BYTES + PAYLOAD_BYTES * length list) (payload + sum list) =
+    ∙ (let joined : pick_due slot window program due PAYLOAD_BYTES payload
+    + pick_due slot window program due (PAYLOAD_BYTES * length list) (sum list)
+    ≡ pick_due slot window program due (PAYLOAD_BYTES + PAYLOAD_BYTES * length list) (payload + sum list) =
     omega (arith, pick-add within fresh in_time held PAYLOAD_BYTES (PAYLOAD_BYTES * length list) payload (sum list)) in joined)
-    ∙ ap (λ n. pick (nat_le due window.due) (is_fresh slot window due) (nat_le (stop slot due) window.tail) (is_held slot window program due) n (payload + sum list)) whole
-    ∙ ap (λ n. pick (nat_le due window.due) (is_fresh slot window due) (nat_le (stop slot due) window.tail) (is_held slot window program due) (PAYLOAD_BYTES * length (payload ∷ list)) n) total
+    ∙ ap (λ n. pick_due slot window program due n (payload + sum list)) whole
+    ∙ ap (λ n. pick_due slot window program due (PAYLOAD_BYTES * length (payload ∷ list)) n) total
 
 -- a unit is charged what is counted of its packets, at most
 unit_charge : (slot : ℕ) (window : BufferWindow) (program item due bytes : ℕ)
@@ -119,16 +124,16 @@ unit_charge slot window program item due bytes =
     let in_time = nat_le (stop slot due) window.tail in
     let held = is_held slot window program due in
     let more : PAYLOAD_BYTES * div_ceil bytes PAYLOAD_BYTES ≤ PAYLOAD_BYTES * length (payloads bytes) = omega (arith, length-payloads bytes) in
-    let rises : pick (nat_le due window.due) (is_fresh slot window due) (nat_le (stop slot due) window.tail) (is_held slot window program due) (PAYLOAD_BYTES * div_ceil bytes PAYLOAD_BYTES) bytes
-    ≤ pick (nat_le due window.due) (is_fresh slot window due) (nat_le (stop slot due) window.tail) (is_held slot window program due) (PAYLOAD_BYTES * length (payloads bytes)) bytes =
+    let rises : pick_due slot window program due (PAYLOAD_BYTES * div_ceil bytes PAYLOAD_BYTES) bytes
+    ≤ pick_due slot window program due (PAYLOAD_BYTES * length (payloads bytes)) bytes =
     pick-le within fresh in_time held (PAYLOAD_BYTES * div_ceil bytes PAYLOAD_BYTES) (PAYLOAD_BYTES * length (payloads bytes)) bytes more in
-    let total : pick (nat_le due window.due) (is_fresh slot window due) (nat_le (stop slot due) window.tail) (is_held slot window program due) (PAYLOAD_BYTES * length (payloads bytes)) (sum (payloads bytes))
-    ≡ pick (nat_le due window.due) (is_fresh slot window due) (nat_le (stop slot due) window.tail) (is_held slot window program due) (PAYLOAD_BYTES * length (payloads bytes)) bytes =
-    ap (λ n. pick (nat_le due window.due) (is_fresh slot window due) (nat_le (stop slot due) window.tail) (is_held slot window program due) (PAYLOAD_BYTES * length (payloads bytes)) n) (sum-payloads bytes) in
+    let total : pick_due slot window program due (PAYLOAD_BYTES * length (payloads bytes)) (sum (payloads bytes))
+    ≡ pick_due slot window program due (PAYLOAD_BYTES * length (payloads bytes)) bytes =
+    ap (λ n. pick_due slot window program due (PAYLOAD_BYTES * length (payloads bytes)) n) (sum-payloads bytes) in
     let weighed : sum_by (video_weight slot window program) (unit_packets item due bytes)
-    ≡ pick (nat_le due window.due) (is_fresh slot window due) (nat_le (stop slot due) window.tail) (is_held slot window program due) (PAYLOAD_BYTES * length (payloads bytes)) (sum (payloads bytes)) =
+    ≡ pick_due slot window program due (PAYLOAD_BYTES * length (payloads bytes)) (sum (payloads bytes)) =
     pieces_weight slot window program item due 0 (payloads bytes) in
-    let goal : pick (nat_le due window.due) (is_fresh slot window due) (nat_le (stop slot due) window.tail) (is_held slot window program due) (PAYLOAD_BYTES * div_ceil bytes PAYLOAD_BYTES) bytes
+    let goal : pick_due slot window program due (PAYLOAD_BYTES * div_ceil bytes PAYLOAD_BYTES) bytes
     ≤ sum_by (video_weight slot window program) (unit_packets item due bytes) = omega (arith, rises, total, weighed) in
     goal
 

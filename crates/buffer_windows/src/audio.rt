@@ -1,13 +1,14 @@
 ghost use Rattle.std.specs.Prelude.{◌≡◌, ◌+◌, ◌-◌, ◌*◌, ◌≤◌, ◌<◌, ◌^◌, length, drop, take, filter, nat_le, ◌&&◌, All, sum_by, ℕ};
 ghost use Rattle.std.specs.List.{flat_map};
 ghost use Rattle.version_table.specs.Table.{IsValidTable, IsValidAudio, IsValidPacket};
-ghost use Rattle.dual_bounds.specs.Private.Counts.{DuesStay, SplitsBy};
+ghost use Rattle.dual_bounds.specs.Packets.{SplitsBy};
 ghost use Rattle.buffer_windows.specs.Room.{audio_slots, is_counted, longest_before, slots_taken};
 ghost use Rattle.buffer_windows.specs.Windows.{stop};
 
 use crate::rooms::{beginning, latest};
 use crate::windows::BufferWindow;
 use dual_bounds::constants::MARGIN_TICKS;
+use dual_bounds::packets_by;
 use list_types::ListOf;
 use stream_constants::decoder::AUDIO_BYTES;
 use version_table::{AudioPacket, Table};
@@ -95,14 +96,6 @@ fn last_counted(slot: u32, window: &BufferWindow) -> u64
 {
     let behind = (u64::from(window.tail) + 1) * u64::from(slot) + MARGIN_TICKS;
     window.due.min(behind - 1)
-}
-
-/// How many packets of an audio stream are due by a time.
-fn packets_by(packets: &[AudioPacket], time: u64) -> usize
-    requires { DuesStay packets.now }
-    ensures { SplitsBy time packets.now result }
-{
-    packets.partition_point(|packet| packet.due <= time)
 }
 
 /// How long the longest front of these packets is that can go before the window's first slot.

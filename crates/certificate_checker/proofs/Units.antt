@@ -47,10 +47,8 @@ use Rattle.version_table.proofs.Chosen.{units_from, units_from_more, units_from_
 use Rattle.version_table.proofs.ValidUnits.{valid_units}
 use Rattle.dual_bounds.specs.Fixed.{FixesVersions, NamesVersion}
 use Rattle.certificate_checker.specs.Shown.{choice_left, version_left, versions_of}
-
 -- ---- how many versions a unit has
-abbrev pub no_unit : CodedUnit
-no_unit = record { due = 0; versions = record { items = [] } }
+pub use Rattle.certificate_checker.specs.Private.Order.{no_unit}
 
 -- how many versions the unit of this number has, of some units
 abbrev pub versions_at : List CodedUnit → (unit : ℕ) → ℕ

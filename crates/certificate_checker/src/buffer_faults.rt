@@ -99,10 +99,5 @@ fn count_programs(programs: usize, windows: &[BufferWindow]) -> bool
 fn keep_buffer_limit(windows: &[BufferWindow]) -> bool
     ensures { IsTrue result ↔ KeepBufferLimit windows.now }
 {
-    for window in windows {
-        if window.lambda > LAMBDA_MOST {
-            return false;
-        }
-    }
-    true
+    windows.iter().all(|window| window.lambda <= LAMBDA_MOST)
 }

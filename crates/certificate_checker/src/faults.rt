@@ -72,24 +72,14 @@ fn goes_before(a: Window, b: Window) -> bool
 fn none_empty(windows: &[Window]) -> bool
     ensures { IsTrue result ↔ NoneEmpty windows.now }
 {
-    for window in windows {
-        if window.due < window.from {
-            return false;
-        }
-    }
-    true
+    windows.iter().all(|window| window.from <= window.due)
 }
 
 /// Whether no lambda passes its limit.
 fn keep_limit(windows: &[Window]) -> bool
     ensures { IsTrue result ↔ KeepLimit windows.now }
 {
-    for window in windows {
-        if window.lambda > LAMBDA_MOST {
-            return false;
-        }
-    }
-    true
+    windows.iter().all(|window| window.lambda <= LAMBDA_MOST)
 }
 
 /// What is wrong first with the one choice that a path leaves and whether it is scheduled.

@@ -17,7 +17,8 @@ use Rattle.command_words.specs.declared.status.Status.TheVariants as statuses
 use Rattle.command_words.specs.declared.status.CertRefusal.TheVariants.{Syntax, Fault}
 use Rattle.command_words.specs.Ended.{EndsAtFault, EndsBy, Performs, answer_of}
 use Rattle.command_words.specs.Held.{HoldsText}
-use Rattle.command_words.specs.Outside.{CountsGrow, ShelfFacts}
+use Rattle.shelf_io.specs.Facts.{ShelfFacts}
+use Rattle.command_words.specs.Outside.{CountsGrow}
 use Rattle.command_words.specs.Report.{cert_report}
 use Rattle.command_words.specs.Task.{AsksOnly}
 use Rattle.command_words.proofs.Performed.{performs_so, wants}

@@ -5,7 +5,7 @@ ghost use Rattle.version_table.specs.Table.{IsValidTable};
 ghost use Rattle.bound_certificate.specs.Cert.{IsCert};
 ghost use Rattle.command_words.specs.Ended.{PerformsOn};
 ghost use Rattle.check_command.specs.CheckCommand.{check_task_of};
-ghost use Rattle.check_command.specs.Private.Checked.{HasTable};
+ghost use Rattle.check_command.specs.Private.Checked.{IsTableOn};
 ghost use Rattle.check_command.specs.Verdict.{IsVerdict, IsVerdictOn};
 
 use bound_certificate::limits::CERT_BYTES_MOST;
@@ -14,7 +14,7 @@ use certificate_checker::{CheckRoom, check};
 use command_words::{
     CertRefusal, CheckFiles, Ended, Status, cert_report, end_missing, end_unread, end_with,
 };
-use job_files::{JobTable, end_stopped, read_job_table};
+use job_files::{end_stopped, pass_job_table};
 use job_report::Report;
 use shelf_io::{Fault, Shelf, read_file};
 use std::alloc::Global;
@@ -26,8 +26,8 @@ pub fn check_job<K: Shelf>(alloc: Global, files: &CheckFiles<'_>, shelf: &mut K)
     ensures { PerformsOn K.files K.counts K.asked K.since_fault shelf.old shelf.new (check_task_of files.now) result }
 {
     let named = [files.job, files.certificate];
-    match read_job_table(alloc, shelf, files.job, &named) {
-        Ok(made) => check_table(alloc, files, &made, shelf),
+    match pass_job_table(alloc, shelf, files.job, &named) {
+        Ok(passed) => check_table(alloc, files, &passed.table, shelf),
         Err(stop) => end_stopped(alloc, stop),
     }
 }
@@ -36,16 +36,16 @@ pub fn check_job<K: Shelf>(alloc: Global, files: &CheckFiles<'_>, shelf: &mut K)
 fn check_table<K: Shelf>(
     alloc: Global,
     files: &CheckFiles<'_>,
-    made: &JobTable,
+    table: &Table,
     shelf: &mut K,
 ) -> Option<Ended>
     requires apart { files.now.job.now ≢ files.now.certificate.now }
-    requires valid { IsValidTable made.now.table }
-    requires held { HasTable (K.files shelf.now) files.now made.now }
+    requires valid { IsValidTable table.now }
+    requires held { IsTableOn (K.files shelf.now) files.now table.now }
     ensures { PerformsOn K.files K.counts K.asked K.since_fault shelf.old shelf.new (check_task_of files.now) result }
 {
     match read_file(alloc, shelf, files.certificate, CERT_BYTES_MOST as u64) {
-        Ok(bytes) => verdict(alloc, &made.table, bytes.as_slice()),
+        Ok(bytes) => verdict(alloc, table, bytes.as_slice()),
         Err(Fault::Failed) => end_unread(alloc, files.certificate),
         Err(Fault::Missing) => end_missing(alloc, files.certificate),
         Err(Fault::OutOfMemory) => None,

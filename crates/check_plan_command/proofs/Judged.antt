@@ -16,7 +16,8 @@ use Rattle.command_words.specs.declared.status.JobRefusal.{JobRefusal}
 use Rattle.command_words.specs.declared.status.JobRefusal.TheVariants.{TableSyntax, TableLimit}
 use Rattle.command_words.specs.Ended.{EndsAtFault, EndsBy, Performs, answer_of}
 use Rattle.command_words.specs.Held.{HoldsText}
-use Rattle.command_words.specs.Outside.{CountsGrow, ShelfFacts}
+use Rattle.shelf_io.specs.Facts.{ShelfFacts}
+use Rattle.command_words.specs.Outside.{CountsGrow}
 use Rattle.command_words.specs.Report.{cert_report, refusal_report}
 use Rattle.command_words.specs.Task.{AsksOnly}
 use Rattle.command_words.proofs.Performed.{performs_so, performs_uncalled, wants, wants_uncalled}

@@ -8,7 +8,7 @@ ghost use Rattle.slot_rule.specs.SlotList.{IsSlotList};
 ghost use Rattle.job_report.specs.declared.job.Job.{Job};
 ghost use Rattle.job_report.specs.ValidJob.{IsValidJob};
 ghost use Rattle.program_reader.specs.declared.program.Program.{Program};
-ghost use Rattle.job_programs.specs.Programs.{ArePrograms};
+ghost use Rattle.job_programs.specs.Read.{AreReadPrograms};
 ghost use Rattle.program_table.specs.Table.{IsTableOf};
 ghost use Rattle.job_stream.specs.Stream.{IsStreamIn};
 ghost use Rattle.clean_laws.specs.Clean.{IsCleanStream};
@@ -21,8 +21,8 @@ use version_source::laws::{one_list_of_versions, pieces_are_as_queued, programs_
 /// The bytes of a job's stream under a scheduled choice are clean: what their packets bring to the decoder of each elementary
 /// stream, and of each program's sections, gives it no fault.
 pub fn stream_is_clean()
-    ensures { (job : Job) (contents : List (List ℕ)) (programs : List Program) (table : Table) (choice : List ℕ) (slots : SlotList) (stream : List ℕ)
-        → IsValidJob job → ArePrograms job contents programs → IsTableOf job programs table → IsValidTable table → Fits table choice
+    ensures { (job : Job) (programs : List Program) (table : Table) (choice : List ℕ) (slots : SlotList) (stream : List ℕ)
+        → IsValidJob job → AreReadPrograms job programs → IsTableOf job programs table → IsValidTable table → Fits table choice
         → IsSlotList table choice slots → IsStreamIn job programs choice slots stream → IsCleanStream table choice stream }
 {
     programs_can_be_sent();

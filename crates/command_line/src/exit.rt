@@ -3,7 +3,7 @@ ghost use Rattle.std.specs.String.{string_bytes};
 ghost use Rattle.command_words.specs.declared.status.Status.{Status as AnyStatus};
 ghost use Rattle.command_words.specs.Command.{IsCommand};
 ghost use Rattle.remux_core.specs.Outcome.{Outcome};
-ghost use Rattle.command_words.specs.Outside.{shelf_facts, sink_facts};
+ghost use Rattle.shelf_io.specs.Facts.{shelf_facts, sink_facts};
 ghost use Rattle.command_words.specs.Status.{code_of};
 
 use remux_core::run;

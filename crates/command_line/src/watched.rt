@@ -79,6 +79,10 @@ impl<'a, R: Files + Clock + Eprint + AllocGlobal, K: Shelf> Shelf for WatchedShe
             Err(fault) => Err(fault),
         }
     }
+
+    fn distrust(&mut self, name: &str) {
+        self.shelf.distrust(name);
+    }
 }
 
 /// What is seen of the calls.

@@ -11,7 +11,8 @@ use Rattle.shelf_io.proofs.Counted.{rose_later}
 use Rattle.command_words.specs.declared.status.Status.{Status}
 use Rattle.command_words.specs.declared.status.Status.TheVariants as statuses
 use Rattle.command_words.specs.Answer.{Answer, HasCause, AnswerHasCause, FailsAt, Refuses, TellsNoFit}
-use Rattle.command_words.specs.Outside.{CountsGrow, ShelfFacts}
+use Rattle.shelf_io.specs.Facts.{ShelfFacts}
+use Rattle.command_words.specs.Outside.{CountsGrow}
 use Rattle.command_words.specs.Report.{cert_report, miss_report, refusal_report}
 use Rattle.command_words.specs.Task.{AsksOnly, Task}
 

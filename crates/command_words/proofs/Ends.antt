@@ -14,7 +14,7 @@ use Rattle.command_words.specs.declared.status.Status.{Status}
 use Rattle.command_words.specs.declared.status.Status.TheVariants as statuses
 use Rattle.command_words.specs.Answer.{Answer}
 use Rattle.command_words.specs.Ended.{EndsAtFault, EndsBy, Tells, answer_of}
-use Rattle.command_words.specs.Outside.{ShelfFacts}
+use Rattle.shelf_io.specs.Facts.{ShelfFacts}
 
 stands : (old new : ℕ) → new ≡ old → old < new → ⊥
 stands old new same rise = omega arith

@@ -12,7 +12,8 @@ use Rattle.command_words.specs.declared.status.Status.{Status}
 use Rattle.command_words.specs.declared.status.Status.TheVariants as statuses
 use Rattle.command_words.specs.Answer.{Answer, AnswerHasCause, Decides, EndsWithStatus, HasCause}
 use Rattle.command_words.specs.Ended.{EndsAtFault, EndsBy, Performs, answer_of}
-use Rattle.command_words.specs.Outside.{CountsGrow, OnFiles, ShelfFacts}
+use Rattle.shelf_io.specs.Facts.{ShelfFacts}
+use Rattle.command_words.specs.Outside.{CountsGrow, OnFiles}
 use Rattle.command_words.specs.Task.{AsksOnly, Task}
 use Rattle.command_words.proofs.Counted.{answer_later, asks_later, asks_none, asks_same, counts_same, counts_twice, programs_grow, read_grows, write_grows}
 use Rattle.command_words.proofs.Ending.{ends_so}

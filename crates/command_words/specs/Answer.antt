@@ -8,7 +8,7 @@ use Rattle.job_report.specs.declared.report.SlotVerdict.{SlotVerdict}
 use Rattle.run_report.specs.Report.{finding_report, source_report}
 use Rattle.command_words.specs.declared.status.Status.{Status}
 use Rattle.command_words.specs.declared.status.Status.TheVariants.{Ok, Usage, JobRefused, SourceRefused, Unschedulable, ReadFault, WriteFault, CertRefused, Missing, OutOfMemory, AuditFault, NoFit}
-use Rattle.command_words.specs.Outside.{ShelfFacts}
+use Rattle.shelf_io.specs.Facts.{ShelfFacts}
 use Rattle.command_words.specs.Report.{cert_report, refusal_report, miss_report}
 use Rattle.command_words.specs.Task.{Task}
 

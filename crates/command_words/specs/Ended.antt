@@ -8,7 +8,8 @@ use Rattle.command_words.specs.declared.ended.Ended.{Ended}
 use Rattle.command_words.specs.declared.status.Status.{Status}
 use Rattle.command_words.specs.declared.status.Status.TheVariants.{ReadFault, WriteFault, Missing}
 use Rattle.command_words.specs.Answer.{Answer, Decides, AnswerHasCause}
-use Rattle.command_words.specs.Outside.{CountsGrow, ShelfFacts, shelf_facts, OnFiles}
+use Rattle.shelf_io.specs.Facts.{ShelfFacts, shelf_facts}
+use Rattle.command_words.specs.Outside.{CountsGrow, OnFiles}
 use Rattle.command_words.specs.Task.{AsksOnly, Task}
 
 -- the answer of a command that ended

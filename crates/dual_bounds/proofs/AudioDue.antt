@@ -9,7 +9,8 @@ use Rattle.version_table.specs.declared.table.AudioPacket.{AudioPacket}
 use Rattle.version_table.specs.declared.table.ProgramRow.{ProgramRow}
 use Rattle.version_table.specs.declared.table.Table.{Table}
 use Rattle.version_table.specs.Table.{IsValidAudio, audio_packets_of}
-use Rattle.dual_bounds.specs.Private.Counts.{DuesStay, SplitsBefore, SplitsBy, audio_within}
+use Rattle.dual_bounds.specs.Packets.{DuesStay, SplitsBy}
+use Rattle.dual_bounds.specs.Private.Counts.{SplitsBefore, audio_within}
 use Rattle.dual_bounds.specs.Room.{audio_due, is_within}
 
 -- what passes a test exactly at the places from one to another

@@ -17,6 +17,6 @@ mod windows;
 pub use bounds::bound_of;
 pub use costs::{price, unit_cost};
 pub use fixed::{Fixed, nothing_fixed};
-pub use room::{capacity, slots_free_below, window_capacity};
+pub use room::{capacity, packets_by, slots_free_below, window_capacity};
 pub use values::{dual_value, window_value, windows_of, worth};
 pub use windows::{Multiplier, Multipliers, Window, Windows, copied};

@@ -1,7 +1,8 @@
 ghost use Rattle.std.specs.Prelude.{◌≡◌, ◌+◌, ◌<◌, ◌≤◌, ◌^◌, length, All};
 ghost use Rattle.std.specs.List.{flat_map};
 ghost use Rattle.version_table.specs.Table.{IsValidTable, IsValidAudio};
-ghost use Rattle.dual_bounds.specs.Private.Counts.{DuesStay, SplitsBefore, SplitsBy, audio_within};
+ghost use Rattle.dual_bounds.specs.Packets.{DuesStay, SplitsBy};
+ghost use Rattle.dual_bounds.specs.Private.Counts.{SplitsBefore, audio_within};
 ghost use Rattle.dual_bounds.specs.Room.{audio_due, free_below, free_slots, room, slot_capacity};
 
 use crate::constants::MARGIN_TICKS;
@@ -85,8 +86,9 @@ fn packets_within(packets: &[AudioPacket], from: u64, due: u64) -> u64
     packets_by(packets, due).saturating_sub(packets_before(packets, from)) as u64
 }
 
-/// How many packets of an audio stream are due by a time.
-fn packets_by(packets: &[AudioPacket], time: u64) -> usize
+/// How many packets of an audio stream are due by a time: the first ones.
+#[inline]
+pub fn packets_by(packets: &[AudioPacket], time: u64) -> usize
     requires { DuesStay packets.now }
     ensures { SplitsBy time packets.now result }
 {

@@ -6,17 +6,9 @@ use Rattle.es_units.specs.StartCodes.{is_start_code_at, start_code_at, is_sequen
 use Rattle.es_units.specs.UnitCutter.{ended_from, front_from, KeepsEnded}
 use Rattle.es_units.specs.Private.CutState.{begin_by, kept_behind, kept_passed}
 use Rattle.es_units.proofs.Codes.{code_stands}
+use Rattle.list_types.proofs.Lists.{take_behind}
 
 -- ---- fronts of lists
-
-pub take_behind : (most : ℕ) (ys xs : List ℕ) → take most (take most ys ++ xs) ≡ take most (ys ++ xs)
-take_behind most ys xs = elim (cases_lt (length ys) most) [
-  | inl less ↦ ap (λ (zs : List ℕ). take most (zs ++ xs)) (take_all most ys (omega arith))
-  | inr more ↦ (
-      let size : length (take most ys) ≡ most = omega (arith, length-take most ys) in
-      take_at (take most ys) xs most size ∙ sym (take-append-le most ys xs more)
-      )
-]
 
 pub take_either : (m n : ℕ) (xs : List ℕ) → take m (take n xs) ≡ take n (take m xs)
 take_either m n xs = elim (cases_lt m n) [

@@ -28,7 +28,7 @@ filter_range p q (suc n) from same =
     let rest : filter p (range_with_len (from + 1) n) ≡ filter q (range_with_len (from + 1) n) = filter_range p q n (from + 1) (λ k b u. same k (omega arith) (omega arith)) in
     rw (here, rest) refl
 
-find_range_same : (p q : ℕ → Bool) (n from : ℕ) → ((k : ℕ) → from ≤ k → k < from + n → p k ≡ q k) → find p (range_with_len from n) ≡ find q (range_with_len from n)
+pub find_range_same : (p q : ℕ → Bool) (n from : ℕ) → ((k : ℕ) → from ≤ k → k < from + n → p k ≡ q k) → find p (range_with_len from n) ≡ find q (range_with_len from n)
 find_range_same p q zero from same = refl
 find_range_same p q (suc n) from same =
     let here : p from ≡ q from = same from (omega arith) (omega arith) in

@@ -2,7 +2,7 @@
 use Rattle.std.proofs.Common.{◌≡◌, ℕ, zero, suc, ◌+◌, ◌-◌, ◌<◌, ◌≤◌, Bool, true, false, ◌||◌, List, [], ◌∷◌, ◌++◌, filter, Some, None, refl, sym, ap, subst, inl, inr, ◌∙◌, arith}
 use Rattle.std.specs.List.{find, list_any, range_with_len}
 use Rattle.std.proofs.lemmas.Bool.{cases_eq}
-use Rattle.list_types.proofs.Search.{find_range}
+use Rattle.list_types.proofs.Search.{find_range, find_none}
 use Rattle.es_units.specs.Units.{places}
 
 range_more : (from n : ℕ) → range_with_len from (suc n) ≡ range_with_len from n ++ (from + n) ∷ []
@@ -47,14 +47,8 @@ filter_none test from end le none = filter_from test from end end le (omega arit
 pub find_place : (test : ℕ → Bool) (end found : ℕ) → found < end → test found ≡ true → ((at : ℕ) → at < found → test at ≡ false) → find test (places 0 end) ≡ Some found
 find_place test end found lt is none = find_range test (end - 0) 0 found (omega arith) (omega arith) is (λ at b u. none at u)
 
-pub none_in_range : (test : ℕ → Bool) (n from : ℕ) → ((at : ℕ) → from ≤ at → at < from + n → test at ≡ false) → find test (range_with_len from n) ≡ None
-none_in_range test zero from none = refl
-none_in_range test (suc n) from none =
-    let here : test from ≡ false = none from (omega arith) (omega arith) in
-    rw here (none_in_range test n (from + 1) (λ at b u. none at (omega arith) (omega arith)))
-
 pub no_place : (test : ℕ → Bool) (end : ℕ) → ((at : ℕ) → test at ≡ false) → find test (places 0 end) ≡ None
-no_place test end none = none_in_range test (end - 0) 0 (λ at b u. none at)
+no_place test end none = find_none test (end - 0) 0 (λ at b u. none at)
 
 pub filter_at : (test : ℕ → Bool) (from at end : ℕ) → from ≤ at → at < end → ((k : ℕ) → from ≤ k → k < at → test k ≡ false) → test at ≡ true
     → filter test (places from end) ≡ at ∷ filter test (places (at + 1) end)

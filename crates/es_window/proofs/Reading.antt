@@ -2,7 +2,7 @@
 use Rattle.std.proofs.Common.{◌≡◌, ℕ, ◌+◌, ◌-◌, ◌^◌, ◌<◌, ◌≤◌, Bool, true, false, not, List, [], ◌∷◌, ◌++◌, length, take, drop, slice_get, Option, Some, None, IfSome}
 use Rattle.std.proofs.Common.{sym, ap, ◌∙◌, subst, arith, length-append, length-drop}
 use Rattle.std.specs.Option.{option_to_list}
-use Rattle.std.proofs.lemmas.List.{append-nil, drop-append-le, drop-drop, take-append-le}
+use Rattle.std.proofs.lemmas.List.{append-nil, drop-append-le, drop-drop, length-take-le, take-append-le}
 use Rattle.std.proofs.lemmas.List.Sums.{sum_by-append, sum_by-cons}
 use Rattle.std.proofs.lemmas.Grind.{flat_map-append}
 use Rattle.std.proofs.lemmas.Option.{same_Some}
@@ -26,7 +26,7 @@ use Rattle.es_window.proofs.Streams.{has_front}
 -- ---- a window
 
 -- more bytes have come
-window_more : (es more : List ℕ) (held : Held) → IsWindowOf es held → IsWindowOf (es ++ more) (window_from held, window_bytes held ++ more)
+pub window_more : (es more : List ℕ) (held : Held) → IsWindowOf es held → IsWindowOf (es ++ more) (window_from held, window_bytes held ++ more)
 window_more es more held is =
     let within : window_from held ≤ length es = omega (arith, is.end_is) in
     record {
@@ -35,7 +35,7 @@ window_more es more held is =
     }
 
 -- a part of what is held
-held_part_of : (es more : List ℕ) (held : Held) (from to : ℕ) (part : List ℕ) → IsWindowOf es held → window_from held ≤ from → from ≤ to → to ≤ window_end held
+pub held_part_of : (es more : List ℕ) (held : Held) (from to : ℕ) (part : List ℕ) → IsWindowOf es held → window_from held ≤ from → from ≤ to → to ≤ window_end held
     → part ≡ take (to - from) (drop (from - window_from held) (window_bytes held)) → IsPart (es ++ more) from to part
 held_part_of es more held from to part is behind order within is_part =
     let back : window_from held + (from - window_from held) ≡ from = omega (arith, behind) in
@@ -51,17 +51,17 @@ held_part_of es more held from to part is behind order within is_part =
 
 -- ---- a step
 
-part_few : (part : HeldPart) (packet : PesUnit) → length (held_part part (Some packet)) ≤ length packet.bytes
+pub part_few : (part : HeldPart) (packet : PesUnit) → length (held_part part (Some packet)) ≤ length packet.bytes
 part_few Payload packet = omega (arith, length-append (pes_payload_of packet) [], length-drop (header_length packet.bytes) packet.bytes)
 part_few Packet packet = omega (arith, length-append packet.bytes [])
 
-size_more : (ended : List PesUnit) (packet : PesUnit) → size_of (ended ++ packet ∷ []) ≡ size_of ended + length packet.bytes
+pub size_more : (ended : List PesUnit) (packet : PesUnit) → size_of (ended ++ packet ∷ []) ≡ size_of ended + length packet.bytes
 size_more ended packet =
     let size : PesUnit → ℕ = λ p. length p.bytes in
     let one : size_of (packet ∷ []) ≡ length packet.bytes + size_of [] = sum_by-cons size packet [] in
     omega (arith, sum_by-append size ended (packet ∷ []), one)
 
-held_few : (part : HeldPart) (ended : List PesUnit) (last : Option PesUnit) → size_of ended + length (held_part part last) ≤ size_of (ended ++ option_to_list last)
+pub held_few : (part : HeldPart) (ended : List PesUnit) (last : Option PesUnit) → size_of ended + length (held_part part last) ≤ size_of (ended ++ option_to_list last)
 held_few part ended None = let same : size_of (ended ++ []) ≡ size_of ended = ap size_of (append-nil ended) in omega (arith, same)
 held_few part ended (Some packet) = omega (arith, part_few part packet, size_more ended packet)
 
@@ -187,6 +187,13 @@ part_read false file left_after most most_after held bytes pid from to part has 
     part_some file left_after most most_after held bytes pid from to part has is behind order within is_part
 part_read true file left_after most most_after held bytes pid from to part has is behind order within is_part =
     part_all file left_after most most_after held bytes pid from to part has is behind order within is_part
+
+-- it is as long as its places say
+pub part_size : (held : Held) (from to : ℕ) (part : List ℕ) → window_from held ≤ from → from ≤ to → to ≤ window_end held
+    → part ≡ take (to - from) (drop (from - window_from held) (window_bytes held)) → length part ≡ to - from
+part_size held from to part behind order within is =
+    ap length is
+    ∙ length-take-le (to - from) (drop (from - window_from held) (window_bytes held)) (omega (arith, behind, order, within, length-drop (from - window_from held) (window_bytes held)))
 
 -- what holds of an answer that is there
 pub if_part : {T : Type 0} {P Q : T → Type 0} (result : Option T) → IfSome result P → ((x : T) → P x → Q x) → IfSome result Q

@@ -11,10 +11,11 @@ use Rattle.ts_packets.specs.TransportStream.{is_of_pid, Piece, piece_count, pid_
 use Rattle.ts_packets.proofs.CarriedLemmas.{carried_more, carried_nothing, packets_none, packets_one, placed_at}
 use Rattle.ts_demux.specs.declared.demuxed.PesUnit.{PesUnit}
 use Rattle.ts_demux.specs.Tables.{piece}
+use Rattle.ts_demux.proofs.Gathering.{units_of}
 use Rattle.ts_demux.proofs.TableLemmas.{pieces_more, pieces_same}
 use Rattle.pes_passing.specs.PassingPackets.{AreSplit, begun_packet, packets_before}
 use Rattle.pes_passing.specs.Private.OpenPacket.{with_payload}
-use Rattle.pes_passing.proofs.Splitting.{split_on, split_start, units_of}
+use Rattle.pes_passing.proofs.Splitting.{split_on, split_start}
 use Rattle.es_window.specs.declared.held_part.HeldPart.{HeldPart}
 use Rattle.es_window.specs.PassingBytes.{bytes_in, part_of, stream_of}
 

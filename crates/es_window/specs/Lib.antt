@@ -1,3 +1,4 @@
 pub mod EsWindow
 pub mod PassingBytes
+pub mod ElementBytes
 pub mod Private

@@ -8,20 +8,17 @@ ghost use Rattle.ts_demux.specs.Faults.{IsMemory};
 ghost use Rattle.ts_demux.specs.Pass.{IsEarly, OnRefused};
 ghost use Rattle.pes_passing.specs.PassingPackets.{held_of};
 ghost use Rattle.es_window.specs.EsWindow.{LacksPart, window_bytes, window_end, window_from};
-ghost use Rattle.es_window.specs.PassingBytes as spec;
 ghost use Rattle.es_window.specs.PassingBytes.{EndsBefore, HasRead, IsPart, part_read, read_index, read_pids, stream_of};
 ghost use Rattle.es_window.specs.Private.Steps.{held_part, steps_left};
 
-use crate::held_part::HeldPart;
+use crate::held_part::{HeldPart, part_of};
 use crate::window::EsWindow;
-use elementary_streams::bytes_behind;
 use list_types::OutOfMemory;
 use pes_passing::PassingPackets;
-use pes_walk::header_bytes;
 use psi_tables::Stream;
 use shelf_io::{Fault, Source};
 use std::alloc::Global;
-use ts_demux::{DemuxFault, PacketBuffer, PassFault, PesUnit};
+use ts_demux::{DemuxFault, PacketBuffer, PassFault};
 
 /// The PES packets of one of some streams or their payloads, one behind the other, read forward out of the transport packets of a source from its front on. The
 /// bytes before a place that goes forward are let go.
@@ -44,6 +41,7 @@ impl PassingBytes {
     ) -> Result<PassingBytes, DemuxFault>
         requires { index < length streams.now }
         ensures read { IfOk result (λ bytes. (left : Option (List ℕ)) (most : ℕ) → most ≤ source_bytes_most → HasRead left left most most [] bytes) }
+        ensures from { IfOk result (λ bytes. window_from bytes.window ≡ 0) }
         ensures streams { IfOk result (λ bytes. (read_pids bytes ≡ map (λ stream. stream.pid) streams.now) × (read_index bytes ≡ index) × (part_read bytes ≡ part)) }
         ensures memory { IfErr result IsMemory }
     {
@@ -119,6 +117,7 @@ impl PassingBytes {
         ensures some { IfSome result (λ part. (file : List ℕ) (left_after : Option (List ℕ)) (most most_after : ℕ) (held : List ℕ) (pid : ℕ) →
             HasRead (Some file) left_after most most_after held self.now → slice_get (read_pids self.now) (read_index self.now) ≡ Some pid →
             IsPart (stream_of (part_read self.now) file pid) from to part.now) }
+        ensures size { IfSome result (λ part. length part.now ≡ to - from) }
         ensures none { IfNone result (LacksPart self.now.window from to) }
     {
         self.window.part(from, to)
@@ -166,16 +165,5 @@ impl PassingBytes {
             return Ok(());
         };
         self.window.add(part_of(packet, self.part))
-    }
-}
-
-/// What is read of a PES packet.
-fn part_of(packet: &PesUnit, part: HeldPart) -> &[u8]
-    ensures { result.now ≡ spec.part_of part packet.now }
-{
-    let bytes = packet.bytes.as_slice();
-    match part {
-        HeldPart::Payload => bytes_behind(bytes, header_bytes(bytes)),
-        HeldPart::Packet => bytes,
     }
 }

@@ -2,8 +2,9 @@
 ghost use Rattle.std.specs.Prelude.{◌≡◌};
 
 use arrayvec::ArrayVec;
-use es_window::{HeldPart, PassingBytes};
-use program_maker::make_program;
+use es_window::{ElementBytes, HeldPart, PassingBytes};
+use program_maker::{in_program_stream, make_program};
+use program_stream::split;
 use psi_tables::Stream;
 use shelf_io::{Reading, Source};
 use shelf_kinds::{CalmShelf, ShortShelf};
@@ -13,9 +14,20 @@ use stream_constants::packets::PACKET_BYTES;
 use ts_demux::{PacketBuffer, PesUnit, demux};
 
 /// How many bytes a call gives at most: one, parts of a packet, and the whole file.
-const GIVEN: [u32; 5] = [1, 187, 188, 189, 4_000_000_000];
+const GIVEN: [u32; 5] = [1, 3, 7, 188, 4_000_000_000];
+
+/// What carries the streams of a file.
+#[derive(Clone, Copy)]
+enum Form {
+    /// Transport packets.
+    Packets,
+    /// Elements of a program stream.
+    Elements,
+}
 
 const VIDEO_PID: u16 = 257;
+
+const VIDEO_ID: u16 = 0xE0;
 
 /// The length of the PES headers of a generated program, whose pictures have both times (ISO/IEC 13818-1, 2.4.3.6).
 const HEADER_BYTES: usize = 19;
@@ -54,9 +66,30 @@ fn part_out_of<S: Source>(
     }
 }
 
-/// The same of a file that is read so many bytes a call.
+/// The same of a program stream.
+fn element_part_out_of<S: Source>(
+    alloc: Global,
+    source: &mut S,
+    part: HeldPart,
+    from: u64,
+    to: u64,
+) -> Result<Option<Vec<u8>>, Fail> {
+    let mut bytes = ElementBytes::open(alloc, source, VIDEO_ID, part)?;
+    let _ = bytes.read_to(source, from)?;
+    bytes.pass(from);
+    if !bytes.read_to(source, to)? {
+        return Ok(None);
+    }
+    match bytes.part(from, to) {
+        Some(part) => Ok(Some(part.to_vec(alloc)?)),
+        None => Ok(None),
+    }
+}
+
+/// The same of a file of a form that is read so many bytes a call.
 fn part_of(
     alloc: Global,
+    form: Form,
     file: &[u8],
     given: u32,
     part: HeldPart,
@@ -67,18 +100,35 @@ fn part_of(
     inner.put_file("a", file)?;
     let mut shelf = ShortShelf::new(inner, given.max(1));
     let mut source = Reading::new(&mut shelf, "a");
-    part_out_of(alloc, &mut source, part, from, to)
+    match form {
+        Form::Packets => part_out_of(alloc, &mut source, part, from, to),
+        Form::Elements => element_part_out_of(alloc, &mut source, part, from, to),
+    }
 }
 
 /// True where the parts before and behind the middle are those of a whole stream, whatever a call gives, and it ends there.
-fn has_parts(alloc: Global, file: &[u8], part: HeldPart, whole: &[u8]) -> Result<bool, Fail> {
+fn has_parts(
+    alloc: Global,
+    form: Form,
+    file: &[u8],
+    part: HeldPart,
+    whole: &[u8],
+) -> Result<bool, Fail> {
     let end = whole.len() as u64;
     let middle = end / 2;
     let mut has = true;
     for given in GIVEN {
-        let first = part_of(alloc, file, given, part, 0, middle)?;
-        let second = part_of(alloc, file, given, part, middle, end)?;
-        let more = part_of(alloc, file, given, part, middle, end.saturating_add(1))?;
+        let first = part_of(alloc, form, file, given, part, 0, middle)?;
+        let second = part_of(alloc, form, file, given, part, middle, end)?;
+        let more = part_of(
+            alloc,
+            form,
+            file,
+            given,
+            part,
+            middle,
+            end.saturating_add(1),
+        )?;
         has = has
             && is_part(&first, whole, 0, middle)
             && is_part(&second, whole, middle, end)
@@ -112,6 +162,7 @@ fn payloads_whatever_a_call_gives(rt: HostRuntime) -> Result<(), Fail> {
     assert!(rt;
         has_parts(
             rt.alloc(),
+            Form::Packets,
             file.as_slice(),
             HeldPart::Payload,
             whole.as_slice()
@@ -128,10 +179,28 @@ fn packets_whatever_a_call_gives(rt: HostRuntime) -> Result<(), Fail> {
     assert!(rt;
         has_parts(
             rt.alloc(),
+            Form::Packets,
             file.as_slice(),
             HeldPart::Packet,
             whole.as_slice()
         )?
     );
+    Ok(())
+}
+
+#[test]
+fn elements_whatever_a_call_gives(rt: HostRuntime) -> Result<(), Fail> {
+    let transport = make_program(rt.alloc(), 1, 1)?;
+    let demuxed = demux(rt.alloc(), transport.as_slice(), 1, &[])?;
+    let file = in_program_stream(rt.alloc(), &demuxed)?;
+    let (program, _cut) = split(rt.alloc(), file.as_slice(), &[])?;
+    let payloads = joined(rt.alloc(), program.video.as_slice(), HEADER_BYTES)?;
+    let packets = joined(rt.alloc(), program.video.as_slice(), 0)?;
+    for (part, whole) in [
+        (HeldPart::Payload, payloads.as_slice()),
+        (HeldPart::Packet, packets.as_slice()),
+    ] {
+        assert!(rt; has_parts(rt.alloc(), Form::Elements, file.as_slice(), part, whole)?);
+    }
     Ok(())
 }

@@ -10,6 +10,7 @@ use Rattle.job_files.specs.JobFile.{HoldsJob}
 use Rattle.job_files.specs.JobTable.{IsTableOfJob}
 use Rattle.rate_fit.specs.declared.verdict.Verdict.{Verdict}
 use Rattle.rate_fit.specs.Fit.{AreVerdicts, IsGreatestFit, in_slots}
+use Rattle.rate_fit.proofs.Slots.{above_start}
 use Rattle.shelf_io.specs.Files.{Files}
 use Rattle.version_table.specs.declared.limits.TheConstants.{SLOT_LEAST, SLOT_MOST}
 use Rattle.version_table.specs.Table.{IsValidTable, greatest}
@@ -18,7 +19,8 @@ use Rattle.command_words.specs.declared.status.Status.TheVariants as statuses
 use Rattle.command_words.specs.declared.status.JobRefusal.TheVariants.{ListSyntax}
 use Rattle.command_words.specs.Ended.{EndsAtFault, EndsBy, Performs, answer_of}
 use Rattle.command_words.specs.Held.{HoldsText}
-use Rattle.command_words.specs.Outside.{CountsGrow, ShelfFacts}
+use Rattle.shelf_io.specs.Facts.{ShelfFacts}
+use Rattle.command_words.specs.Outside.{CountsGrow}
 use Rattle.command_words.specs.Report.{refusal_report}
 use Rattle.command_words.specs.Task.{AsksOnly}
 use Rattle.command_words.proofs.Performed.{performs_so, performs_uncalled, wants_uncalled}
@@ -113,10 +115,6 @@ verdicts_perform law name list facts job slots made (Some ended) is (verdicts, f
     found_ends law name list facts facts job slots made verdicts found ended is are best ends refl fault counts asks
 
 -- ---- the longest slot
-
-above_start : (start : ℕ) (slots : List ℕ) → start ≤ fold max start slots
-above_start start [] = omega arith
-above_start start (slot ∷ slots) = omega (arith, above_start (max start slot) slots)
 
 within_most : (start most : ℕ) (slots : List ℕ) → start ≤ most → All (λ slot. (SLOT_LEAST ≤ slot) × (slot ≤ most)) slots → fold max start slots ≤ most
 within_most start most [] few all = few

@@ -7,6 +7,7 @@ use Rattle.std.proofs.lemmas.Bool.{cases_lt}
 use Rattle.std.proofs.lemmas.Grind.{flat_map-append}
 use Rattle.std.proofs.lemmas.List.{append-nil, get_or_append_left, length-append}
 use Rattle.version_table.specs.declared.limits.TheConstants.{SLOT_LEAST, SLOT_MOST}
+use Rattle.rate_fit.proofs.GreatestSaid.{old_or_new}
 use Rattle.fit_command.specs.declared.limits.TheConstants.{LIST_BYTES_MOST, LIST_LINES_MOST}
 use Rattle.fit_command.specs.ListText.{IsListRefused, IsListText, MayBeSlots, list_spelling, slot_line}
 use Rattle.fit_command.specs.Private.NextSlot.{IsNextNumber, IsNextSlot, Rises}
@@ -16,12 +17,6 @@ use Rattle.fit_command.proofs.Lines.{one_line}
 
 long : (before : List ℕ) (slot : ℕ) → length (before ++ slot ∷ []) ≡ length before + 1
 long before slot = length-append before (slot ∷ [])
-
-old_or_last : (k n : ℕ) → k < n + 1 → (k < n) ⊎ (k ≡ n)
-old_or_last k n lt = elim (cases_lt k n) as (λ _. (k < n) ⊎ (k ≡ n)) [
-  | inl less ↦ inl less
-  | inr more ↦ inr (omega (arith, lt, more))
-]
 
 last_is : (before : List ℕ) (slot k d : ℕ) → k ≡ length before → get_or (before ++ slot ∷ []) k d ≡ slot
 last_is before slot k d e = ap (λ (j : ℕ). get_or (before ++ slot ∷ []) j d) e ∙ get_or-append_seam before slot [] d
@@ -51,8 +46,8 @@ pub stand_more : (before : List ℕ) (slot : ℕ) → MayBeSlots before → leng
     → MayBeSlots (before ++ slot ∷ [])
 stand_more before slot stand few own rises = record {
   few = omega (arith, long before slot, few);
-  within = λ k d lt. within_more before slot stand.within own k d (old_or_last k (length before) (omega (arith, lt, long before slot)));
-  rising = λ k lt. rising_more before slot stand.rising rises k (old_or_last (k + 1) (length before) (omega (arith, lt, long before slot)));
+  within = λ k d lt. within_more before slot stand.within own k d (old_or_new k (length before) (omega (arith, lt, long before slot)));
+  rising = λ k lt. rising_more before slot stand.rising rises k (old_or_new (k + 1) (length before) (omega (arith, lt, long before slot)));
 }
 
 -- and what it was for
@@ -83,7 +78,7 @@ pub nothing_stands : MayBeSlots []
 nothing_stands = record { few = omega arith; within = λ k d lt. absurd (omega (arith, lt)); rising = λ k lt. absurd (omega (arith, lt)) }
 
 -- a slot that may stand is small
-slot_small : (before : List ℕ) (slot : ℕ) → MayBeSlots (before ++ slot ∷ []) → slot < 2 ^ 64
+pub slot_small : (before : List ℕ) (slot : ℕ) → MayBeSlots (before ++ slot ∷ []) → slot < 2 ^ 64
 slot_small before slot stand = let own = (stand_parts before slot stand).1 in omega (arith, own.1)
 
 -- ---- the next slot

@@ -1,10 +1,10 @@
 -- A text is one list, or refused at one line, and never both.
-use Rattle.std.proofs.Common.{◌≡◌, ◌≢◌, ℕ, ◌+◌, ◌<◌, ◌≤◌, ◌^◌, List, [], ◌∷◌, ◌++◌, length, decimal, refl, sym, ap, subst, ◌∙◌, append_assoc, inl, inr, arith}
+use Rattle.std.proofs.Common.{◌≡◌, ◌≢◌, ℕ, ◌+◌, ◌≤◌, List, [], ◌∷◌, ◌++◌, length, decimal, refl, sym, ap, subst, ◌∙◌, append_assoc, inl, inr, arith}
 use Rattle.std.proofs.lemmas.List.{append-nil, get_or_append_left, length-append}
 use Rattle.version_table.specs.declared.limits.TheConstants.{SLOT_LEAST, SLOT_MOST}
 use Rattle.fit_command.specs.ListText.{IsListRefused, IsListText, MayBeSlots, list_spelling, slot_line}
 use Rattle.fit_command.proofs.Lines.{one_line}
-use Rattle.fit_command.proofs.Lists.{stand_parts}
+use Rattle.fit_command.proofs.Lists.{slot_small}
 
 -- no line that may stand behind these slots comes
 abbrev Stuck : (before rest : List ℕ) → Type 0
@@ -30,9 +30,6 @@ stand_front front behind stand = record {
 first_stands : (before : List ℕ) (slot : ℕ) (slots : List ℕ) → MayBeSlots (before ++ slot ∷ slots) → MayBeSlots (before ++ slot ∷ [])
 first_stands before slot slots stand = stand_front (before ++ slot ∷ []) slots (subst (λ (s : List ℕ). MayBeSlots s) (sym (append_assoc before (slot ∷ []) slots)) stand)
 
-small : (before : List ℕ) (slot : ℕ) → MayBeSlots (before ++ slot ∷ []) → slot < 2 ^ 64
-small before slot stand = let own = (stand_parts before slot stand).1 in omega (arith, own.1)
-
 -- behind the same slots the lines go on in one way
 one_beginning : (before xs ys r s : List ℕ) → MayBeSlots (before ++ xs) → MayBeSlots (before ++ ys) → Stuck (before ++ xs) r → Stuck (before ++ ys) s
     → list_spelling xs ++ r ≡ list_spelling ys ++ s → (xs ≡ ys) × (r ≡ s)
@@ -46,7 +43,9 @@ one_beginning before (x ∷ xs) [] r s stands stand stuck ends e =
 one_beginning before (x ∷ xs) (y ∷ ys) r s stands stand stuck ends e =
     let parts : slot_line x ++ (list_spelling xs ++ r) ≡ slot_line y ++ (list_spelling ys ++ s) =
     sym (append_assoc (slot_line x) (list_spelling xs) r) ∙ e ∙ append_assoc (slot_line y) (list_spelling ys) s in
-    let (first, rest) = one_line x y (list_spelling xs ++ r) (list_spelling ys ++ s) (small before x (first_stands before x xs stands)) (small before y (first_stands before y ys stand)) parts in
+    let small = slot_small before x (first_stands before x xs stands) in
+    let other_small = slot_small before y (first_stands before y ys stand) in
+    let (first, rest) = one_line x y (list_spelling xs ++ r) (list_spelling ys ++ s) small other_small parts in
     let joined : (before ++ x ∷ []) ++ xs ≡ before ++ x ∷ xs = append_assoc before (x ∷ []) xs in
     let other : (before ++ x ∷ []) ++ ys ≡ before ++ y ∷ ys = append_assoc before (x ∷ []) ys ∙ ap (λ (z : ℕ). before ++ z ∷ ys) first in
     let (same, end) = one_beginning (before ++ x ∷ []) xs ys r s (subst (λ (b : List ℕ). MayBeSlots b) (sym joined) stands) (subst (λ (b : List ℕ). MayBeSlots b) (sym other) stand)

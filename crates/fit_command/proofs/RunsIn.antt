@@ -1,8 +1,10 @@
 -- A job that fits in a slot has the same programs there, and their smallest choice is scheduled.
 use Rattle.std.proofs.Common.{◌≡◌, ℕ, ◌≤◌, All, List, [], ◌∷◌, ◌++◌, map, get_or, Option, Some, None, refl, subst, arith}
 use Rattle.std.proofs.lemmas.List.Elements.{All-cons, All-head, All-nil, All-tail}
+use Rattle.std.proofs.lemmas.Option.{IfSome_then}
 use Rattle.syntax_types.specs.declared.picture.SeqState.{SeqState}
 use Rattle.job_programs.specs.Programs.{AreNextPrograms, IsWithinTime, last_time}
+use Rattle.job_programs.specs.Read.{AreReadEach}
 use Rattle.job_programs.specs.Told.{AreProgramsOn}
 use Rattle.job_report.specs.declared.job.Job.{Job}
 use Rattle.job_report.specs.declared.job.ProgramJob.{ProgramJob}
@@ -108,6 +110,20 @@ next_in slot other start contents programs (job ∷ jobs) (content ∷ further) 
   next_in slot other start (contents ++ content ∷ []) (programs ++ program ∷ []) jobs further more rest (All-tail (AreTimesBy (end_of_slots other)) program more within),
 )
 
+read_in : (slot other start : ℕ) (jobs : List ProgramJob) (programs : List Program) → AreReadEach slot start jobs programs → All (AreTimesBy (end_of_slots other)) programs
+    → AreReadEach other start jobs programs
+read_in slot other start [] [] each within = tt
+read_in slot other start [] (program ∷ programs) each within = absurd each
+read_in slot other start (job ∷ jobs) [] each within = absurd each
+read_in slot other start (job ∷ jobs) (program ∷ programs) (was, rest) within = (
+  record {
+    read = was.read;
+    within = within_other slot other program was.within (All-head (AreTimesBy (end_of_slots other)) program programs within);
+    share = was.share;
+  },
+  read_in slot other start jobs programs rest (All-tail (AreTimesBy (end_of_slots other)) program programs within),
+)
+
 -- ---- the law
 
 -- a table has one smallest choice
@@ -123,7 +139,14 @@ table_runs law told job slot programs table are is (within, (choice, small, sche
     let times = program_times slot job.programs [] programs is.versions is.are_versions units audios in (
       programs,
       in_slots slot table,
-      record { contents = are.contents; held = are.held; are = next_in job.slot slot job.start [] [] job.programs are.contents programs are.are times },
+      record {
+        read = record { each = read_in job.slot slot job.start job.programs programs are.read.each times; few_units = are.read.few_units };
+        held = IfSome_then told are.held (λ files in_files. record {
+          contents = in_files.contents;
+          held = in_files.held;
+          are = next_in job.slot slot job.start [] [] job.programs in_files.contents programs in_files.are times;
+        });
+      },
       record { versions = is.versions; are_versions = is.are_versions; slot = refl; nodes = is.nodes; evaluations = is.evaluations; rows = is.rows },
       λ other least. subst (λ (c : List ℕ). IsScheduled (in_slots slot table) c) (law (in_slots slot table) choice other small least) scheduled,
     )

@@ -19,7 +19,7 @@ use crate::reported::report_of;
 use command_words::{
     Ended, FitFiles, JobRefusal, Status, end_missing, end_unread, end_with, refusal_report,
 };
-use job_files::{end_stopped, read_job_file, read_table_of_job};
+use job_files::{end_stopped, pass_table_of_job, read_job_file};
 use job_report::Job;
 use rate_fit::{fit, greatest_fit, longest};
 use shelf_io::{Fault, Shelf, read_file};
@@ -100,8 +100,8 @@ fn fit_in_slots<K: Shelf>(
 {
     smallest_choice_is_one();
     job.slot = longest(slots);
-    match read_table_of_job(alloc, shelf, job) {
-        Ok(made) => verdicts_on(alloc, made.table, slots),
+    match pass_table_of_job(alloc, shelf, job) {
+        Ok(passed) => verdicts_on(alloc, passed.table, slots),
         Err(stop) => end_stopped(alloc, stop),
     }
 }

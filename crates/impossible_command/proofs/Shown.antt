@@ -10,15 +10,14 @@ use Rattle.impossible_proof.specs.NoRoom.{HasNoRoom, IsAnswer}
 use Rattle.impossible_command.specs.Verdict.{IsVerdict, NothingIsScheduled, SmallestMisses}
 use Rattle.impossible_command.specs.Private.Judged.{report_of}
 
--- the law that a table has one smallest choice
-abbrev pub OneSmallest : Type 0
-OneSmallest = (table : Table) (a b : List ℕ) → IsSmallestChoice table a → IsSmallestChoice table b → a ≡ b
+-- a table has one smallest choice
+module _ (one : (table : Table) (a b : List ℕ) → IsSmallestChoice table a → IsSmallestChoice table b → a ≡ b) where
+  pub scheduled_one : (table : Table) (choice : List ℕ) → IsSmallestChoice table choice → IsScheduled table choice → SmallestIsScheduled table
+  scheduled_one table choice small scheduled other least = subst (λ (c : List ℕ). IsScheduled table c) (one table choice other small least) scheduled
 
-pub scheduled_one : OneSmallest → (table : Table) (choice : List ℕ) → IsSmallestChoice table choice → IsScheduled table choice → SmallestIsScheduled table
-scheduled_one one table choice small scheduled other least = subst (λ (c : List ℕ). IsScheduled table c) (one table choice other small least) scheduled
-
-pub missed_one : OneSmallest → (table : Table) (choice : List ℕ) → IsSmallestChoice table choice → (IsScheduled table choice → ⊥) → SmallestMisses table
-missed_one one table choice small misses other least scheduled = misses (subst (λ (c : List ℕ). IsScheduled table c) (one table other choice least small) scheduled)
+  pub missed_one : (table : Table) (choice : List ℕ) → IsSmallestChoice table choice → (IsScheduled table choice → ⊥) → SmallestMisses table
+  missed_one table choice small misses other least scheduled =
+      misses (subst (λ (c : List ℕ). IsScheduled table c) (one table other choice least small) scheduled)
 
 pub report_is : (table : Table) (found : Option NoRoom) → ((from due : ℕ) → HasNoRoom table from due → NothingIsScheduled table) → SmallestMisses table → IsAnswer table found
     → IsVerdict table (report_of found)

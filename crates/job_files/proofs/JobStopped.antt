@@ -13,7 +13,7 @@ use Rattle.command_words.specs.declared.ended.Ended.{Ended}
 use Rattle.command_words.specs.declared.status.Status.{Status}
 use Rattle.command_words.specs.declared.status.Status.TheVariants as statuses
 use Rattle.command_words.specs.Ended.{EndsAtFault, Performs, Tells, answer_of}
-use Rattle.command_words.specs.Outside.{ShelfFacts}
+use Rattle.shelf_io.specs.Facts.{ShelfFacts}
 use Rattle.command_words.specs.Report.{refusal_report}
 use Rattle.command_words.specs.Task.{AsksOnly, Task}
 use Rattle.command_words.proofs.Counted.{programs_grow}

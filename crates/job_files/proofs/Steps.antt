@@ -1,19 +1,19 @@
 -- From a job's file to its table, in several calls.
-use Rattle.std.proofs.Common.{◌≡◌, ℕ, ◌≤◌, List, [], ◌∷◌, ◌++◌, All, Option, Result, Ok, Err, IfOk, IfErr, sym, subst, inl, inr, ◌∙◌, arith}
+use Rattle.std.proofs.Common.{◌≡◌, ℕ, ◌≤◌, List, [], ◌∷◌, ◌++◌, All, Option, Result, Ok, Err, IfOk, IfErr, refl, sym, subst, inl, inr, ◌∙◌, arith}
 use Rattle.std.proofs.lemmas.List.Elements.{All-cons, All-nil}
-use Rattle.bit_lists.specs.Fields.{AreBytes}
 use Rattle.shelf_io.specs.Causes.{ReadCauses}
 use Rattle.shelf_io.specs.Counts.{Rose, ShelfCounts}
 use Rattle.shelf_io.specs.Files.{Files, Lacks}
 use Rattle.shelf_io.proofs.Counted.{rose_later}
-use Rattle.job_report.specs.declared.job.Form.{Form}
 use Rattle.job_report.specs.declared.job.Job.{Job}
 use Rattle.job_report.specs.declared.job.ProgramJob.{ProgramJob}
 use Rattle.job_report.specs.ValidJob.{IsValidJob}
+use Rattle.job_programs.specs.declared.passed.PassedPrograms.{PassedPrograms}
+use Rattle.job_programs.specs.Passed.{ArePassedOn}
 use Rattle.job_programs.specs.Told.{AreProgramsOn, CountReads, StopsAtProgram}
-use Rattle.job_programs.specs.Programs.{AreNextPrograms, ArePrograms}
+use Rattle.job_programs.specs.Read.{AreReadEach, AreReadPrograms}
+use Rattle.program_reader.specs.ReadProgram.{IsReadProgram}
 use Rattle.program_reader.specs.declared.program.Program.{Program}
-use Rattle.program_reader.specs.Programs.{IsProgramOfFile}
 use Rattle.version_source.specs.Sendable.{IsSendable}
 use Rattle.program_table.specs.Table.{IsTableOf}
 use Rattle.version_table.specs.declared.table.Table.{Table}
@@ -23,44 +23,38 @@ use Rattle.job_files.specs.declared.job_stop.JobStop.TheVariants.{Text, Source, 
 use Rattle.job_files.specs.declared.job_table.JobTable.{JobTable}
 use Rattle.job_files.specs.declared.job_stop.TextRefusal.{TextRefusal}
 use Rattle.job_files.specs.JobFile.{HoldsJob, HoldsRefused, IsJobOfText}
+use Rattle.job_files.specs.declared.passed_job.PassedJob.{PassedJob}
 use Rattle.job_files.specs.JobTable.{IsJobTable, IsTableOfJob}
+use Rattle.job_files.specs.PassedJob.{IsJobPassed, IsPassedOfJob}
 use Rattle.job_files.specs.Stops.{StopsFile, StopsFor, StopsJob}
 use Rattle.job_files.specs.Private.Steps.{IsMissing, IsProgramAt, IsUnread}
 use Rattle.job_files.specs.Private.Texts.{IsTextStop}
 
--- a program that a file holds can be sent
-abbrev pub HeldIsSendable : Type 0
-HeldIsSendable = (form : Form) (file : List ℕ) (number : ℕ) (dropped : List ℕ) (start : ℕ) (program : Program) → IsProgramOfFile form file number dropped start program → IsSendable program
+-- a program that was read can be sent
+abbrev pub ReadIsSendable : Type 0
+ReadIsSendable = (start : ℕ) (program : Program) → IsReadProgram start program → IsSendable program
 
--- so the programs of jobs can be
-pub can_be_sent : HeldIsSendable → (slot start : ℕ) (contents : List (List ℕ)) (programs : List Program) (jobs : List ProgramJob) (further : List (List ℕ)) (more : List Program)
-    → AreNextPrograms slot start contents programs jobs further more → All IsSendable more
-can_be_sent law slot start contents programs [] [] [] are = All-nil IsSendable
-can_be_sent law slot start contents programs [] [] (program ∷ more) are = absurd are
-can_be_sent law slot start contents programs [] (content ∷ further) more are = absurd are
-can_be_sent law slot start contents programs (job ∷ jobs) [] more are = absurd are
-can_be_sent law slot start contents programs (job ∷ jobs) (content ∷ further) [] are = absurd are
-can_be_sent law slot start contents programs (job ∷ jobs) (content ∷ further) (program ∷ more) (next, rest) =
-    All-cons IsSendable program more (law job.form content job.program job.drop.items start program next.holds)
-    (can_be_sent law slot start (contents ++ content ∷ []) (programs ++ program ∷ []) jobs further more rest)
+-- so each of those of a job can be
+each_can_go : ReadIsSendable → (slot start : ℕ) (jobs : List ProgramJob) (programs : List Program) → AreReadEach slot start jobs programs → All IsSendable programs
+each_can_go law slot start [] [] each = All-nil IsSendable
+each_can_go law slot start [] (program ∷ programs) each = absurd each
+each_can_go law slot start (job ∷ jobs) [] each = absurd each
+each_can_go law slot start (job ∷ jobs) (program ∷ programs) (was, rest) =
+    All-cons IsSendable program programs (law start program was.read) (each_can_go law slot start jobs programs rest)
 
--- each of them can be sent
-pub programs_can_go : HeldIsSendable → (job : Job) (programs sources : List Program) → sources ≡ programs → (contents : List (List ℕ)) × ArePrograms job contents programs
-    → All IsSendable sources
-programs_can_go law job programs sources same (contents, are) =
-    subst (λ (ps : List Program). All IsSendable ps) (sym same) (can_be_sent law job.slot job.start [] [] job.programs contents programs are)
+pub programs_can_go : ReadIsSendable → (job : Job) (programs sources : List Program) → sources ≡ programs → AreReadPrograms job programs → All IsSendable sources
+programs_can_go law job programs sources same read =
+    subst (λ (ps : List Program). All IsSendable ps) (sym same) (each_can_go law job.slot job.start job.programs programs read.each)
 
--- the table of programs that are read is valid
+-- the table of programs that were read is valid
 abbrev pub TableIsValid : Type 0
-TableIsValid = (job : Job) (contents : List (List ℕ)) (programs : List Program) (table : Table) → IsValidJob job → ArePrograms job contents programs
-    → All (λ program. AreBytes program.video) programs → IsTableOf job programs table → IsValidTable table
+TableIsValid = (job : Job) (programs : List Program) (table : Table) → IsValidJob job → AreReadPrograms job programs → IsTableOf job programs table → IsValidTable table
 
-pub table_made_valid : {E : Type 0} → TableIsValid → (job : Job) (programs sources : List Program) → sources ≡ programs → IsValidJob job
-    → (contents : List (List ℕ)) × ArePrograms job contents programs → All (λ program. AreBytes program.video) sources
+pub table_made_valid : {E : Type 0} → TableIsValid → (job : Job) (programs sources : List Program) → sources ≡ programs → IsValidJob job → AreReadPrograms job programs
     → (result : Result Table E) → IfOk result (IsTableOf job sources) → IfOk result IsValidTable
-table_made_valid law job programs sources same valid (contents, are) bytes (Err fault) is = tt
-table_made_valid law job programs sources same valid (contents, are) bytes (Ok table) is =
-    law job contents sources table valid (subst (λ (ps : List Program). ArePrograms job contents ps) (sym same) are) bytes is
+table_made_valid law job programs sources same valid read (Err fault) is = tt
+table_made_valid law job programs sources same valid read (Ok table) is =
+    law job sources table valid (subst (λ (ps : List Program). AreReadPrograms job ps) (sym same) read) is
 
 -- counts over two calls that read
 pub reads_twice : {old middle new : ShelfCounts} {failed missing : Type 0} → ReadCauses failed missing old middle → CountReads middle new → CountReads old new
@@ -84,6 +78,34 @@ is_job_table told middle name named job (Ok made) same holds is = record {
   table = is.table;
 }
 
+-- so it is where the programs' bytes aren't kept
+pub is_job_passed : (told middle : Option Files) (name : List ℕ) (named : List (List ℕ)) (job : Job) (result : Result PassedJob JobStop) → middle ≡ told
+    → HoldsJob told name named job → IfOk result (IsPassedOfJob middle job) → IfOk result (IsJobPassed told name named)
+is_job_passed told middle name named job (Err stop) same holds made = tt
+is_job_passed told middle name named job (Ok passed) same holds is = record {
+  made = is.made;
+  is_table = record {
+    holds = subst (λ (j : Job). HoldsJob told name named j) (sym is.is_table.job_is) holds;
+    programs = subst (λ (t : Option Files). AreProgramsOn t is.made.job is.made.programs) same is.is_table.programs;
+    table = is.is_table.table;
+  };
+  off = is.off;
+}
+
+-- of a valid job
+pub passed_valid : (told : Option Files) (job : Job) (result : Result PassedJob JobStop) → IsValidJob job → IfOk result (IsPassedOfJob told job) → IfOk result (λ passed. IsValidJob passed.job)
+passed_valid told job (Err stop) valid is = tt
+passed_valid told job (Ok passed) valid is = subst IsValidJob (sym (is.off.job_is ∙ is.is_table.job_is)) valid
+
+-- a job with what is read off its programs, and their table
+pub is_passed_of : (told : Option Files) (job : Job) (read : PassedPrograms) (table : Table) → (on : ArePassedOn told job read) → IsTableOf job on.programs table
+    → IsPassedOfJob told job (record { job = job; programs = read.programs; table = table })
+is_passed_of told job read table on is = record {
+  made = record { job = job; programs = on.programs; table = table };
+  is_table = record { job_is = refl; programs = on.are; table = is };
+  off = record { job_is = refl; read_off = on.off.read_off; table_is = refl };
+}
+
 -- what stopped a job that was read
 stop_later : (told : Option Files) (name : List ℕ) (named : List (List ℕ)) (job : Job) (old middle new : ShelfCounts) (since : ℕ) (stop : JobStop)
     → HoldsJob told name named job → old.faults ≤ middle.faults → middle.faults ≤ new.faults → old.absences ≤ middle.absences → middle.absences ≤ new.absences
@@ -103,7 +125,7 @@ stop_later told name named job old middle new since (Missing file) holds f1 f2 a
 )
 stop_later told name named job old middle new since OutOfMemory holds f1 f2 a1 a2 stops = tt
 
-pub stops_later : (told between : Option Files) (name : List ℕ) (named : List (List ℕ)) (job : Job) (old middle new : ShelfCounts) (since : ℕ) (result : Result JobTable JobStop)
+pub stops_later : {T : Type 0} (told between : Option Files) (name : List ℕ) (named : List (List ℕ)) (job : Job) (old middle new : ShelfCounts) (since : ℕ) (result : Result T JobStop)
     → between ≡ told → HoldsJob told name named job → CountReads old middle → CountReads middle new → IfErr result (StopsJob between job middle new since)
     → IfErr result (StopsFor told name named old new since)
 stops_later told between name named job old middle new since (Ok made) same holds first second stops = tt

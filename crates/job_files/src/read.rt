@@ -1,7 +1,7 @@
-ghost use Rattle.std.specs.Prelude.{◌≡◌, ◌∷◌, ◌++◌, ◌+◌, length, map, Contains, IfOk, IfErr, IsErrAnd, List, ℕ};
+ghost use Rattle.std.specs.Prelude.{◌≡◌, ◌∷◌, ◌++◌, ◌+◌, length, map, Contains, IfOk, IfErr, IsErrAnd};
 ghost use Rattle.job_report.specs.declared.job.ProgramJob.{ProgramJob as AnyProgram};
 ghost use Rattle.job_report.specs.ValidJob.{IsValidJob};
-ghost use Rattle.job_programs.specs.Programs.{ArePrograms};
+ghost use Rattle.job_programs.specs.Read.{AreReadPrograms};
 ghost use Rattle.job_programs.specs.Sizes.{AreJobSizes};
 ghost use Rattle.job_programs.specs.Told.{AreProgramsOn, AsksForPrograms, CountReads, HasReadCause, ReadsEnd};
 ghost use Rattle.program_table.specs.Table.{IsTableOf};
@@ -12,7 +12,6 @@ ghost use Rattle.job_files.specs.JobFile.{HoldsJob};
 ghost use Rattle.job_files.specs.Stops.{AsksForJob, EndsMissing, EndsUnread, StopsFile, StopsFor, StopsJob};
 ghost use Rattle.job_files.specs.Private.Steps.{IsMissing, IsProgramAt, IsUnread};
 
-use crate::bytes::see_videos;
 use crate::job_stop::JobStop;
 use crate::job_table::JobTable;
 use crate::text::job_of_text;
@@ -118,20 +117,18 @@ pub fn read_table_of_job<K: Shelf>(
 /// The table of a job's programs, of the sizes that were told when they were read. Fails only for want of memory.
 fn table_of_programs(alloc: Global, job: &Job, read: &SizedPrograms) -> Result<Table, OutOfMemory>
     requires job { IsValidJob job.now }
-    requires programs { (contents : List (List ℕ)) × ArePrograms job.now contents read.now.programs }
+    requires programs { AreReadPrograms job.now read.now.programs }
     requires sizes { AreJobSizes job.now.programs read.now.programs read.now.sizes }
     ensures table { IfOk result (IsTableOf job.now read.now.programs) }
     ensures valid { IfOk result IsValidTable }
 {
     programs_can_be_sent();
     table_is_valid();
-    let sources = read.programs.as_slice();
-    see_videos(sources);
-    table_of(alloc, job, sources, read.sizes.as_slice())
+    table_of(alloc, job, read.programs.as_slice(), read.sizes.as_slice())
 }
 
 /// The file of the program of this number in a job.
-fn file_of(job: &Job, number: u8) -> &str
+pub(crate) fn file_of(job: &Job, number: u8) -> &str
     requires { (program : AnyProgram) × IsProgramAt job.now number program }
     ensures { (program : AnyProgram) → IsProgramAt job.now number program → result.now ≡ program.file }
 {
@@ -139,7 +136,7 @@ fn file_of(job: &Job, number: u8) -> &str
 }
 
 /// A file that can't be read.
-fn unread(alloc: Global, name: &str) -> JobStop
+pub(crate) fn unread(alloc: Global, name: &str) -> JobStop
     ensures { IsUnread name.now result }
 {
     match Text::of(alloc, name) {
@@ -149,7 +146,7 @@ fn unread(alloc: Global, name: &str) -> JobStop
 }
 
 /// A file that isn't there.
-fn missing(alloc: Global, name: &str) -> JobStop
+pub(crate) fn missing(alloc: Global, name: &str) -> JobStop
     ensures { IsMissing name.now result }
 {
     match Text::of(alloc, name) {

@@ -17,7 +17,8 @@ use Rattle.program_reader.specs.AudioTypes.{typed}
 use Rattle.elementary_streams.specs.Packets.{joined}
 use Rattle.elementary_streams.specs.Audio.{taken_of}
 use Rattle.program_reader.specs.Programs.{IsTakenOut, StandIn, in_packets, in_elements}
-use Rattle.program_table.proofs.TakenOut.{typed-streams, typed_stream}
+use Rattle.program_reader.proofs.AudioMaps.{by_type}
+use Rattle.program_reader.proofs.TakenOut.{typed-streams}
 use Rattle.mux_writer.specs.Layout.{video_pid, with_output_pids, with_pids_from}
 use Rattle.parsing_laws.specs.TakenOut.{HasStreams}
 
@@ -61,7 +62,7 @@ carried-kinds-are file number dropped carried others has =
       };
     }
 
-typed-audio : (audio : AudioStream) → IsAudio (typed_stream audio)
+typed-audio : (audio : AudioStream) → IsAudio (by_type audio)
 typed-audio audio = by_test (has_low_rate (joined (taken_of audio)))
   where
     by_test : (low : Bool) → (cond low 4 3 == 3 || cond low 4 3 == 4) ≡ true
@@ -73,11 +74,11 @@ by-form form file number drop found cut (in_packets is_form is none) =
     subst (λ (f : Form). HasKinds (typed f found).map) (sym is_form) (carried-kinds-are file number drop found.map found.not_carried is.tables)
 by-form form file number drop found cut (in_elements is_form one is) = subst (λ (f : Form). HasKinds (typed f found).map) (sym is_form) (record {
   video = map_stream 2 is.video;
-  audios = map typed_stream found.audios;
+  audios = map by_type found.audios;
   has = record {
     streams = typed-streams file drop found cut is;
     is_video = refl;
-    are_audio = All-map IsAudio typed_stream found.audios (λ k d within. typed-audio (get_or found.audios k d));
+    are_audio = All-map IsAudio by_type found.audios (λ k d within. typed-audio (get_or found.audios k d));
   };
 })
 

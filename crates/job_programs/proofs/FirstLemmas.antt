@@ -10,7 +10,7 @@ use Rattle.program_reader.specs.declared.program.Program.{Program}
 use Rattle.program_reader.specs.declared.program_fault.SourceKind.{SourceKind}
 use Rattle.job_programs.specs.declared.source_fault.SourceFault.{SourceFault}
 use Rattle.job_programs.specs.Programs.{ArePrograms, IsFirstRefused, bytes_of_files, units_of_programs}
-use Rattle.job_programs.specs.Told.{AreProgramsOn, HoldContents, IsRefusedOn}
+use Rattle.job_programs.specs.Told.{AreProgramsIn, AreProgramsOn, HoldContents, IsRefusedIn, IsRefusedOn}
 use Rattle.job_programs.specs.Private.Behind.{AreProgramsOf, IsRefusedBehind, job_keeps}
 use Rattle.job_programs.proofs.Forms.{are-of, refused-behind}
 use Rattle.job_programs.proofs.LawLemmas.{OneProgram, OneRefusal, NeverBoth, not-both, one-refusal, one-programs, count-of, next-in}
@@ -203,33 +203,42 @@ still-refused job c x all fault is r = record {
 }
 
 pub one-programs-on : OneProgram → (files : Files) (job : Job) (ps qs : List Program) → AreProgramsOn (Some files) job ps → AreProgramsOn (Some files) job qs → ps ≡ qs
-one-programs-on one files job ps qs a b =
-    let same = common files job.programs a.contents b.contents a.held b.held in
-    let are = are-of job.slot job.start job.programs a.contents ps a.are in
-    let other = are-of job.slot job.start job.programs b.contents qs b.are in
-    let ca = count-of job.start job.programs a.contents ps are.hold in
-    let cb = count-of job.start job.programs b.contents qs other.hold in
-    let wa = whole files job.programs a.contents b.contents same ca in
-    let sizes : length same.all ≡ length b.contents + length same.behind' = ap length same.second_is ∙ length-append b.contents same.behind' in
-    let count : length same.all ≡ length a.contents = ap length wa in
-    let none : same.behind' ≡ [] = no-more same.behind' (omega (arith, sizes, count, ca, cb)) in
-    let wb : same.all ≡ b.contents = same.second_is ∙ ap (λ (l : List (List ℕ)). b.contents ++ l) none ∙ append-nil b.contents in
-    let b' = subst (λ (l : List (List ℕ)). AreProgramsOf job.slot job.start job.programs l qs) (sym wb ∙ wa) other in
-    one-programs one job.slot job.start job.programs a.contents ps qs are b'
+one-programs-on one files job ps qs on other_on = by-contents on.held other_on.held
+  where
+    by-contents : AreProgramsIn files job.slot job.start job.programs ps → AreProgramsIn files job.slot job.start job.programs qs → ps ≡ qs
+    by-contents a b =
+        let same = common files job.programs a.contents b.contents a.held b.held in
+        let are = are-of job.slot job.start job.programs a.contents ps a.are in
+        let other = are-of job.slot job.start job.programs b.contents qs b.are in
+        let ca = count-of job.start job.programs a.contents ps are.hold in
+        let cb = count-of job.start job.programs b.contents qs other.hold in
+        let wa = whole files job.programs a.contents b.contents same ca in
+        let sizes : length same.all ≡ length b.contents + length same.behind' = ap length same.second_is ∙ length-append b.contents same.behind' in
+        let count : length same.all ≡ length a.contents = ap length wa in
+        let none : same.behind' ≡ [] = no-more same.behind' (omega (arith, sizes, count, ca, cb)) in
+        let wb : same.all ≡ b.contents = same.second_is ∙ ap (λ (l : List (List ℕ)). b.contents ++ l) none ∙ append-nil b.contents in
+        let b' = subst (λ (l : List (List ℕ)). AreProgramsOf job.slot job.start job.programs l qs) (sym wb ∙ wa) other in
+        one-programs one job.slot job.start job.programs a.contents ps qs are b'
 
 pub one-first-on : OneProgram → OneRefusal → NeverBoth → (files : Files) (job : Job) (a b : SourceFault) → IsRefusedOn (Some files) job a → IsRefusedOn (Some files) job b → a ≡ b
-one-first-on one only never files job a b ra rb =
-    let same = common files job.programs ra.contents rb.contents ra.held rb.held in
-    one-first one only never job same.all a b
-    (still-refused job ra.contents same.behind same.all a same.first_is (first-of job ra.contents a ra.refused))
-    (still-refused job rb.contents same.behind' same.all b same.second_is (first-of job rb.contents b rb.refused))
+one-first-on one only never files job a b on other_on = by-contents on.held other_on.held
+  where
+    by-contents : IsRefusedIn files job a → IsRefusedIn files job b → a ≡ b
+    by-contents ra rb =
+        let same = common files job.programs ra.contents rb.contents ra.held rb.held in
+        one-first one only never job same.all a b
+        (still-refused job ra.contents same.behind same.all a same.first_is (first-of job ra.contents a ra.first))
+        (still-refused job rb.contents same.behind' same.all b same.second_is (first-of job rb.contents b rb.first))
 
 pub none-refused-on : OneProgram → NeverBoth → (files : Files) (job : Job) (programs : List Program) (fault : SourceFault)
     → AreProgramsOn (Some files) job programs → IsRefusedOn (Some files) job fault → ⊥
-none-refused-on one never files job programs fault a r =
-    let same = common files job.programs a.contents r.contents a.held r.held in
-    let are = are-of job.slot job.start job.programs a.contents programs a.are in
-    let ca = count-of job.start job.programs a.contents programs are.hold in
-    let wa = whole files job.programs a.contents r.contents same ca in
-    none-refused one never job a.contents programs fault are
-    (subst (λ (l : List (List ℕ)). FirstBehind job l fault) wa (still-refused job r.contents same.behind' same.all fault same.second_is (first-of job r.contents fault r.refused)))
+none-refused-on one never files job programs fault on other_on = by-contents on.held other_on.held
+  where
+    by-contents : AreProgramsIn files job.slot job.start job.programs programs → IsRefusedIn files job fault → ⊥
+    by-contents a r =
+        let same = common files job.programs a.contents r.contents a.held r.held in
+        let are = are-of job.slot job.start job.programs a.contents programs a.are in
+        let ca = count-of job.start job.programs a.contents programs are.hold in
+        let wa = whole files job.programs a.contents r.contents same ca in
+        none-refused one never job a.contents programs fault are
+        (subst (λ (l : List (List ℕ)). FirstBehind job l fault) wa (still-refused job r.contents same.behind' same.all fault same.second_is (first-of job r.contents fault r.first)))

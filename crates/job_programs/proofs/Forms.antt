@@ -29,12 +29,6 @@ kept slot program is = record {
 
 -- ---- one program
 
-pub program-of : (slot start : ℕ) (contents : List (List ℕ)) (programs : List Program) (job : ProgramJob) (content : List ℕ) (program : Program)
-    → IsProgramBehind slot start (bytes_of_files contents) (units_of_programs programs) job.form job.program job.drop.items (job_keeps job) content program
-    → IsNextProgram slot start contents programs job content program
-program-of slot start contents programs job content program is =
-    record { few_bytes = is.few_bytes; holds = is.holds; few_units = is.few_units; within = keeps slot program is.within; share = is.near }
-
 pub behind-of : (slot start : ℕ) (contents : List (List ℕ)) (programs : List Program) (job : ProgramJob) (content : List ℕ) (program : Program)
     → IsNextProgram slot start contents programs job content program
     → IsProgramBehind slot start (bytes_of_files contents) (units_of_programs programs) job.form job.program job.drop.items (job_keeps job) content program

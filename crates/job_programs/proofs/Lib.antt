@@ -5,7 +5,8 @@ mod TogetherLemmas
 mod NextLemmas
 mod Forms
 mod ReadLemmas
-mod ShareLemmas
+mod ReadJobs
+pub mod ShareLemmas
 mod ProbeLemmas
 mod LawLemmas
 mod FirstLemmas
@@ -13,4 +14,7 @@ mod MissingLemmas
 mod ProbeLaws
 mod AloneLemmas
 mod SizesLemmas
+mod TimeLemmas
+mod PassedLemmas
+mod PassedSteps
 mod Examples

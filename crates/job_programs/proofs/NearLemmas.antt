@@ -17,6 +17,7 @@ use Rattle.program_reader.specs.Units.{unit_bytes}
 use Rattle.program_reader.specs.declared.program.UnitSource.{UnitSource}
 use Rattle.program_reader.specs.declared.unit_sizes.UnitSizes.{UnitSizes}
 use Rattle.job_programs.specs.Distortions.{AreNear, KeepsDistortions, weighed_together}
+use Rattle.program_reader.proofs.Missing.{no_unit}
 
 -- ---- units have one list of sizes
 
@@ -74,9 +75,6 @@ near-parts weight drift n units rest unit sizes more own split parts weighs near
 
 pub sizes-from : (sizes : List UnitSizes) (k : ℕ) (own : UnitSizes) → k < length sizes → own ≡ get_or sizes k own → drop k sizes ≡ own ∷ drop (k + 1) sizes
 sizes-from sizes k own within is = drop_more sizes k own within ∙ ap (λ (s : UnitSizes). s ∷ drop (k + 1) sizes) (sym is)
-
-abbrev pub no_unit : UnitSource
-no_unit = record { begin = 0; end = 0; times = record { pts = None; dts = None }; due = 0; kind = 0; role = Frame }
 
 -- the weight of the unit at a place, whatever stands for one that isn't there
 abbrev pub Weighs : (weight drift : ℕ) → List UnitSource → (k n : ℕ) → Type 0

@@ -1,5 +1,5 @@
 -- What is read of a file up to one byte past what is left of the limit decides as the file's content does.
-use Rattle.std.proofs.Common.{◌≡◌, ℕ, ◌+◌, ◌≤◌, min, List, length, take, Result, Ok, Err, IfOk, IfErr, Option, Some, None, refl, sym, ap, subst, ◌∙◌, take_all, arith}
+use Rattle.std.proofs.Common.{◌≡◌, ◌↔◌, Bool, true, false, IsTrue, ℕ, ◌+◌, ◌≤◌, min, List, length, take, Result, Ok, Err, IfOk, IfErr, Option, Some, None, refl, sym, ap, subst, ◌∙◌, take_all, arith}
 use Rattle.std.proofs.lemmas.List.{length-take}
 use Rattle.std.specs.FinMap.{get}
 use Rattle.std.specs.Option.{IsSomeAnd}
@@ -15,16 +15,24 @@ use Rattle.job_programs.specs.declared.source_fault.ProgramsFault.TheVariants.{R
 use Rattle.job_programs.specs.Told.{HoldsContent}
 use Rattle.job_programs.specs.Private.Behind.{IsProgramBehind, IsRefusedBehind, many_bytes, file, many_units, late, far}
 use Rattle.job_programs.specs.Private.Next.{HasNextCause, IsContentFault, IsNextOn}
+use Rattle.program_reader.specs.ReadProgram.{IsReadProgram}
+use Rattle.program_reader.specs.Programs.{IsProgramOfFile}
+use Rattle.shelf_io.proofs.Whole.{IfTold_then}
 
-in-files : (files : Files) (name front : List ℕ) (n : ℕ) (made : Option (List ℕ)) → get files name ≡ made → IsSomeAnd made (λ content. front ≡ take (n + 1) content)
-    → (content : List ℕ) × (get files name ≡ Some content) × (front ≡ take (n + 1) content)
-in-files files name front n None is holds = absurd holds
-in-files files name front n (Some content) is holds = (content, is, holds)
+pub is-not : (r : Bool) (P : Type 0) → (IsTrue r ↔ P) → r ≡ false → ¬ P
+is-not r P decides fails = λ holds. let yes : r ≡ true = decides.1 holds in cc
+
+pub in-files : (files : Files) (name : List ℕ) {P : List ℕ → Type 0} → IsSomeAnd (get files name) P → (content : List ℕ) × (get files name ≡ Some content) × P content
+in-files files name {P} = by-content (get files name) refl
+  where
+    by-content : (made : Option (List ℕ)) → get files name ≡ made → IsSomeAnd made P → (content : List ℕ) × (get files name ≡ Some content) × P content
+    by-content None is holds = absurd holds
+    by-content (Some content) is holds = (content, is, holds)
 
 pub found : (told : Option Files) (name front : List ℕ) (n : ℕ) → length front ≤ n + 1 → IfTold told name (λ content. front ≡ take (n + 1) content)
     → (content : List ℕ) × HoldsContent told name content × (front ≡ take (n + 1) content)
 found None name front n short holds = (front, tt, sym (take_all (n + 1) front short))
-found (Some files) name front n short holds = in-files files name front n (get files name) refl holds
+found (Some files) name front n short holds = in-files files name holds
 
 pub is-whole : (bytes n : ℕ) (front content : List ℕ) → bytes + n ≡ FILE_BYTES_MOST → front ≡ take (n + 1) content → bytes + length front ≤ FILE_BYTES_MOST → front ≡ content
 is-whole bytes n front content room is few =
@@ -46,46 +54,49 @@ refused-whole slot start bytes units form number drop keeps n front content kind
     subst (λ (l : List ℕ). IsRefusedBehind slot start bytes units form number drop keeps l kind at) (is-whole bytes n front content room is few) (far program few holds past k a)
 
 next-whole : (told : Option Files) (name : List ℕ) (slot start bytes units : ℕ) (form : Form) (number : ℕ) (drop : List ℕ) (keeps : Program → Type 0) (n : ℕ) (front : List ℕ) (size : ℕ) (program : Program)
-    → bytes + n ≡ FILE_BYTES_MOST → length front ≤ n + 1 → IfTold told name (λ content. front ≡ take (n + 1) content)
-    → size ≡ length front → IsProgramBehind slot start bytes units form number drop keeps front program
+    → bytes + n ≡ FILE_BYTES_MOST → IfTold told name (λ content. front ≡ take (n + 1) content)
+    → size ≡ length front → IsProgramBehind slot start bytes units form number drop keeps front program → IsReadProgram start program
     → IsNextOn told name slot start bytes units form number drop keeps size program
-next-whole told name slot start bytes units form number drop keeps n front size program room short told_is size_is next =
-    let f = found told name front n short told_is in
-    let whole : front ≡ f.0 = is-whole bytes n front f.0 room f.2 next.few_bytes in
-    record {
-      content = f.0;
-      held = f.1;
-      size_is = size_is ∙ ap length whole;
-      next = subst (λ (l : List ℕ). IsProgramBehind slot start bytes units form number drop keeps l program) whole next;
-    }
+next-whole told name slot start bytes units form number drop keeps n front size program room told_is size_is next read = record {
+  read = read;
+  few_bytes = omega (arith, size_is, next.few_bytes);
+  few_units = next.few_units;
+  within = next.within;
+  near = next.near;
+  held = IfTold_then told name told_is (λ content is.
+      (let whole : front ≡ content = is-whole bytes n front content room is next.few_bytes in
+      (size_is ∙ ap length whole, subst (λ (l : List ℕ). IsProgramOfFile form l number drop start program) whole next.holds)));
+}
 
 -- the next program is the one of the file
 pub next-on : (told : Option Files) (name : List ℕ) (slot start bytes units : ℕ) (form : Form) (number : ℕ) (drop : List ℕ) (keeps : Program → Type 0) (n : ℕ) (content front : List ℕ) (result : Result NextProgram ProgramsFault)
-    → bytes + n ≡ FILE_BYTES_MOST → length content ≤ n + 1 → IfTold told name (λ whole. content ≡ take (n + 1) whole) → front ≡ content
+    → bytes + n ≡ FILE_BYTES_MOST → IfTold told name (λ whole. content ≡ take (n + 1) whole) → front ≡ content
     → IfOk result (λ next. (next.size ≡ length front) × IsProgramBehind slot start bytes units form number drop keeps front next.program)
+    → IfOk result (λ next. IsReadProgram start next.program)
     → IfOk result (λ next. IsNextOn told name slot start bytes units form number drop keeps next.size next.program)
-next-on told name slot start bytes units form number drop keeps n content front (Err fault) room short told_is same holds = tt
-next-on told name slot start bytes units form number drop keeps n content front (Ok next) room short told_is same holds =
+next-on told name slot start bytes units form number drop keeps n content front (Err fault) room told_is same holds read = tt
+next-on told name slot start bytes units form number drop keeps n content front (Ok next) room told_is same holds read =
     let program = subst (λ (l : List ℕ). IsProgramBehind slot start bytes units form number drop keeps l next.program) same holds.1 in
-    next-whole told name slot start bytes units form number drop keeps n content next.size next.program room short told_is (holds.0 ∙ ap length same) program
+    next-whole told name slot start bytes units form number drop keeps n content next.size next.program room told_is (holds.0 ∙ ap length same) program read
 
 fault-on : (told : Option Files) (name : List ℕ) (slot start bytes units : ℕ) (form : Form) (number : ℕ) (drop : List ℕ) (keeps : Program → Type 0) (place n : ℕ) (content : List ℕ) (old new : ShelfCounts) (since : ℕ) (fault : ProgramsFault)
-    → bytes + n ≡ FILE_BYTES_MOST → length content ≤ n + 1 → IfTold told name (λ whole. content ≡ take (n + 1) whole)
+    → bytes + n ≡ FILE_BYTES_MOST → IfTold told name (λ whole. content ≡ take (n + 1) whole)
     → IsContentFault slot start bytes units form number drop keeps place content fault → HasNextCause told name slot start bytes units form number drop keeps place old new since fault
-fault-on told name slot start bytes units form number drop keeps place n content old new since (Refused fault) room short told_is holds =
-    let f = found told name content n short told_is in
-    record { place_is = holds.0; content = f.0; held = f.1; refused = refused-whole slot start bytes units form number drop keeps n content f.0 fault.kind fault.at room f.2 holds.1 }
-fault-on told name slot start bytes units form number drop keeps place n content old new since (Failed number') room short told_is holds = absurd holds
-fault-on told name slot start bytes units form number drop keeps place n content old new since (Missing number') room short told_is holds = absurd holds
-fault-on told name slot start bytes units form number drop keeps place n content old new since OutOfMemory room short told_is holds = tt
+fault-on told name slot start bytes units form number drop keeps place n content old new since (Refused fault) room told_is holds = record {
+  place_is = holds.0;
+  held = IfTold_then told name told_is (λ whole is. refused-whole slot start bytes units form number drop keeps n content whole fault.kind fault.at room is holds.1);
+}
+fault-on told name slot start bytes units form number drop keeps place n content old new since (Failed number') room told_is holds = absurd holds
+fault-on told name slot start bytes units form number drop keeps place n content old new since (Missing number') room told_is holds = absurd holds
+fault-on told name slot start bytes units form number drop keeps place n content old new since OutOfMemory room told_is holds = tt
 
 -- what refuses the bytes that were read refuses the file
 pub cause-on : (told : Option Files) (name : List ℕ) (slot start bytes units : ℕ) (form : Form) (number : ℕ) (drop : List ℕ) (keeps : Program → Type 0) (place n : ℕ) (content front : List ℕ) (old new : ShelfCounts) (since : ℕ)
     (result : Result NextProgram ProgramsFault)
-    → bytes + n ≡ FILE_BYTES_MOST → length content ≤ n + 1 → IfTold told name (λ whole. content ≡ take (n + 1) whole) → front ≡ content
+    → bytes + n ≡ FILE_BYTES_MOST → IfTold told name (λ whole. content ≡ take (n + 1) whole) → front ≡ content
     → IfErr result (IsContentFault slot start bytes units form number drop keeps place front)
     → IfErr result (HasNextCause told name slot start bytes units form number drop keeps place old new since)
-cause-on told name slot start bytes units form number drop keeps place n content front old new since (Ok next) room short told_is same holds = tt
-cause-on told name slot start bytes units form number drop keeps place n content front old new since (Err fault) room short told_is same holds =
-    fault-on told name slot start bytes units form number drop keeps place n content old new since fault room short told_is
+cause-on told name slot start bytes units form number drop keeps place n content front old new since (Ok next) room told_is same holds = tt
+cause-on told name slot start bytes units form number drop keeps place n content front old new since (Err fault) room told_is same holds =
+    fault-on told name slot start bytes units form number drop keeps place n content old new since fault room told_is
     (subst (λ (l : List ℕ). IsContentFault slot start bytes units form number drop keeps place l fault) same holds)

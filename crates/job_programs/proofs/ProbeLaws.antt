@@ -1,6 +1,7 @@
 -- A probed file has one program, or one refusal.
-use Rattle.std.proofs.Common.{◌≡◌, ℕ, ◌<◌, List, [], Some, sym, subst, ◌∙◌, arith}
+use Rattle.std.proofs.Common.{◌≡◌, ℕ, ◌<◌, List, [], Option, None, Some, sym, subst, ◌∙◌, arith}
 use Rattle.std.specs.FinMap.{get}
+use Rattle.std.specs.Option.{IsSomeAnd}
 use Rattle.shelf_io.specs.Files.{Files}
 use Rattle.job_report.specs.declared.job.Form.TheVariants.{Ts}
 use Rattle.job_programs.specs.declared.limits.TheConstants.{PROBED_AUDIO_PACKETS_MOST}
@@ -45,22 +46,28 @@ same-content files name c d first second = cc
 
 pub one-probed-on : OneProgram → (files : Files) (name : List ℕ) (slot start number : ℕ) (drop : List ℕ) (p q : Program)
     → IsProbedOn (Some files) name slot start number drop p → IsProbedOn (Some files) name slot start number drop q → p ≡ q
-one-probed-on one files name slot start number drop p q a b =
-    let same = same-content files name b.content a.content b.held a.held in
-    let b' = subst (λ (c : List ℕ). IsProbed slot start number drop c q) same b.probed in
-    one Ts a.content number drop start p q a.probed.is_program.holds b'.is_program.holds
+one-probed-on one files name slot start number drop p q a b = by-content (get files name) a.held b.held
+  where
+    by-content : (made : Option (List ℕ)) → IsSomeAnd made (λ content. IsProbed slot start number drop content p) → IsSomeAnd made (λ content. IsProbed slot start number drop content q) → p ≡ q
+    by-content None first second = absurd first
+    by-content (Some content) first second = one Ts content number drop start p q first.is_program.holds second.is_program.holds
 
 pub probed-not-refused-on : OneProgram → NeverBoth → (files : Files) (name : List ℕ) (slot start number : ℕ) (drop : List ℕ) (program : Program) (fault : SourceFault)
     → IsProbedOn (Some files) name slot start number drop program → IsProbeRefusedOn (Some files) name slot start number drop fault → ⊥
-probed-not-refused-on one never files name slot start number drop program fault a r =
-    let same = same-content files name r.content a.content r.held a.held in
-    probed-not-refused one never slot start number drop a.content program fault.kind fault.at a.probed
-    (subst (λ (c : List ℕ). IsProbeRefused slot start number drop c fault.kind fault.at) same r.refused)
+probed-not-refused-on one never files name slot start number drop program fault a r = by-content (get files name) a.held r.held
+  where
+    by-content : (made : Option (List ℕ)) → IsSomeAnd made (λ content. IsProbed slot start number drop content program)
+        → IsSomeAnd made (λ content. IsProbeRefused slot start number drop content fault.kind fault.at) → ⊥
+    by-content None first second = absurd first
+    by-content (Some content) first second = probed-not-refused one never slot start number drop content program fault.kind fault.at first second
 
 pub one-probe-refusal-on : OneProgram → OneRefusal → NeverBoth → (files : Files) (name : List ℕ) (slot start number : ℕ) (drop : List ℕ) (a b : SourceFault)
     → IsProbeRefusedOn (Some files) name slot start number drop a → IsProbeRefusedOn (Some files) name slot start number drop b → a ≡ b
-one-probe-refusal-on one only never files name slot start number drop a b ra rb =
-    let same = same-content files name rb.content ra.content rb.held ra.held in
-    let rb' = subst (λ (c : List ℕ). IsProbeRefused slot start number drop c b.kind b.at) same rb.refused in
-    let why = one-probe-refusal one only never slot start number drop ra.content a.kind b.kind a.at b.at ra.refused rb' in
-    same-fault a.program b.program a.kind b.kind a.at b.at (ra.first ∙ sym rb.first) why.0 why.1
+one-probe-refusal-on one only never files name slot start number drop a b ra rb = by-content (get files name) ra.held rb.held
+  where
+    by-content : (made : Option (List ℕ)) → IsSomeAnd made (λ content. IsProbeRefused slot start number drop content a.kind a.at)
+        → IsSomeAnd made (λ content. IsProbeRefused slot start number drop content b.kind b.at) → a ≡ b
+    by-content None first second = absurd first
+    by-content (Some content) first second =
+        let why = one-probe-refusal one only never slot start number drop content a.kind b.kind a.at b.at first second in
+        same-fault a.program b.program a.kind b.kind a.at b.at (ra.first ∙ sym rb.first) why.0 why.1

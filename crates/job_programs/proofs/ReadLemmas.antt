@@ -1,6 +1,7 @@
 -- The first programs of a job, one more, and what stops there.
 use Rattle.std.proofs.Common.{◌≡◌, ℕ, ◌+◌, ◌<◌, ◌≤◌, List, [], ◌∷◌, ◌++◌, length, take, drop, get_or, Option, None, Some, IfSome, refl, sym, ap, subst, ◌∙◌, length-take-le, arith}
 use Rattle.std.specs.FinMap.{get}
+use Rattle.std.proofs.lemmas.Option.{IfSome_then}
 use Rattle.std.proofs.lemmas.List.{take_more, take-append-drop, drop_more}
 use Rattle.std.proofs.lemmas.List.Elements.{All-push, All-nil}
 use Rattle.std.proofs.lemmas.List.Sums.{sum_by_push}
@@ -17,12 +18,14 @@ use Rattle.job_programs.specs.declared.source_fault.SourceFault.{SourceFault}
 use Rattle.job_programs.specs.declared.source_fault.ProgramsFault.{ProgramsFault}
 use Rattle.job_programs.specs.declared.source_fault.ProgramsFault.TheVariants.{Refused, Failed, Missing, OutOfMemory}
 use Rattle.job_programs.specs.Programs.{bytes_of_files, units_of_programs}
-use Rattle.job_programs.specs.Told.{AreProgramsOn, CountReads, HasReadCause, HoldContents, HoldsContent, IsRefusedOn, StopsAtProgram}
+use Rattle.job_programs.specs.Read.{AreReadEach, IsReadFor}
+use Rattle.job_programs.specs.Told.{AreProgramsIn, AreProgramsOn, CountReads, HasReadCause, HoldContents, IsRefusedIn, IsRefusedOn, StopsAtProgram}
 use Rattle.job_programs.specs.Private.Behind.{AreProgramsOf, HoldPrograms, HoldsKept, IsProgramBehind, IsRefusedBehind, KeepsTime, job_keeps}
 use Rattle.job_programs.specs.Share.{KeepsShare}
 use Rattle.job_programs.specs.Private.Next.{HasNextCause, IsNextOn, IsNextRefusedOn}
-use Rattle.job_programs.specs.Private.ReadSoFar.{ReadSoFar}
-use Rattle.job_programs.proofs.Forms.{next-of, refused-of}
+use Rattle.job_programs.specs.Private.ReadSoFar.{HoldSoFar, ReadSoFar}
+use Rattle.job_programs.proofs.Forms.{keeps, next-of, refused-of}
+use Rattle.job_programs.proofs.NextLemmas.{in-files}
 
 -- ---- lists
 
@@ -47,12 +50,6 @@ held-through files start (j ∷ js) (c ∷ cs) [] job after content hold held is
 held-through files start (j ∷ js) (c ∷ cs) (p ∷ ps) job after content hold held is =
     (held.0, held-through files start js cs ps job after content hold.1 held.1 is)
 
-told-through : (told : Option Files) (start : ℕ) (jobs : List ProgramJob) (contents : List (List ℕ)) (programs : List Program) (job : ProgramJob) (after : List ProgramJob) (content : List ℕ)
-    → HoldPrograms start jobs contents programs → IfSome told (λ files. HoldContents files jobs contents) → HoldsContent told job.file content
-    → IfSome told (λ files. HoldContents files (jobs ++ job ∷ after) (contents ++ content ∷ []))
-told-through None start jobs contents programs job after content hold held is = tt
-told-through (Some files) start jobs contents programs job after content hold held is = held-through files start jobs contents programs job after content hold held is
-
 -- ---- one more program
 
 are-more : (slot start : ℕ) (jobs : List ProgramJob) (contents : List (List ℕ)) (programs : List Program) (job : ProgramJob) (content : List ℕ) (program : Program)
@@ -66,11 +63,6 @@ are-more slot start jobs contents programs job content program are next = record
   within = All-push (KeepsTime slot) programs program are.within next.within;
 }
 
-next-at : (slot start b u b' u' : ℕ) (form : Form) (number : ℕ) (drop : List ℕ) (keeps : Program → Type 0) (content : List ℕ) (program : Program) → b ≡ b' → u ≡ u'
-    → IsProgramBehind slot start b u form number drop keeps content program → IsProgramBehind slot start b' u' form number drop keeps content program
-next-at slot start b u b' u' form number drop keeps content program eb eu next =
-    subst (λ (n : ℕ). IsProgramBehind slot start b' n form number drop keeps content program) eu (subst (λ (n : ℕ). IsProgramBehind slot start n u form number drop keeps content program) eb next)
-
 refused-at : (slot start b u b' u' : ℕ) (form : Form) (number : ℕ) (drop : List ℕ) (keeps : Program → Type 0) (content : List ℕ) (kind : SourceKind) (at : ℕ) → b ≡ b' → u ≡ u'
     → IsRefusedBehind slot start b u form number drop keeps content kind at → IsRefusedBehind slot start b' u' form number drop keeps content kind at
 refused-at slot start b u b' u' form number drop keeps content kind at eb eu refused =
@@ -79,29 +71,66 @@ refused-at slot start b u b' u' form number drop keeps content kind at eb eu ref
 -- none is read at first
 pub read-none : (told : Option Files) (slot start : ℕ) → ReadSoFar told slot start [] [] 0 0
 read-none told slot start = record {
-  contents = [];
-  held = told-none told;
-  are = record { hold = tt; few_bytes = omega arith; few_units = omega arith; within = All-nil (KeepsTime slot) };
-  bytes_are = refl;
+  read = record { each = tt; few_units = omega arith };
   units_are = refl;
+  few_bytes = omega arith;
+  held = told-none told;
 }
   where
-    told-none : (told : Option Files) → IfSome told (λ files. HoldContents files [] [])
+    told-none : (told : Option Files) → IfSome told (λ files. HoldSoFar files slot start [] [] 0)
     told-none None = tt
-    told-none (Some files) = tt
+    told-none (Some files) = record {
+      contents = [];
+      held = tt;
+      are = record { hold = tt; few_bytes = omega arith; few_units = omega arith; within = All-nil (KeepsTime slot) };
+      bytes_are = refl;
+    }
+
+each-more : (slot start : ℕ) (jobs : List ProgramJob) (programs : List Program) (job : ProgramJob) (program : Program) → AreReadEach slot start jobs programs → IsReadFor slot start job program
+    → AreReadEach slot start (jobs ++ job ∷ []) (programs ++ program ∷ [])
+each-more slot start [] [] job program each is = (is, tt)
+each-more slot start [] (p ∷ ps) job program each is = absurd each
+each-more slot start (j ∷ js) [] job program each is = absurd each
+each-more slot start (j ∷ js) (p ∷ ps) job program each is = (each.0, each-more slot start js ps job program each.1 is)
+
+told-more : (told : Option Files) (slot start : ℕ) (jobs : List ProgramJob) (job : ProgramJob) (programs : List Program) (bytes units size : ℕ) (program : Program)
+    → ReadSoFar told slot start jobs programs bytes units
+    → IsNextOn told job.file slot start bytes units job.form job.program job.drop.items (job_keeps job) size program
+    → IfSome told (λ files. HoldSoFar files slot start (jobs ++ job ∷ []) (programs ++ program ∷ []) (bytes + size))
+told-more None slot start jobs job programs bytes units size program read next = tt
+told-more (Some files) slot start jobs job programs bytes units size program read next =
+    let at = in-files files job.file next.held in
+    let content : List ℕ = at.0 in
+    let size_is : size ≡ length content = at.2.0 in
+    let so_far : HoldSoFar files slot start jobs programs bytes = read.held in
+    let behind : IsProgramBehind slot start (bytes_of_files so_far.contents) (units_of_programs programs) job.form job.program job.drop.items (job_keeps job) content program = record {
+      few_bytes = omega (arith, next.few_bytes, so_far.bytes_are, size_is);
+      holds = at.2.1;
+      few_units = omega (arith, next.few_units, read.units_are);
+      within = next.within;
+      near = next.near;
+    } in
+    record {
+      contents = so_far.contents ++ content ∷ [];
+      held = held-through files start jobs so_far.contents programs job [] content so_far.are.hold so_far.held at.1;
+      are = are-more slot start jobs so_far.contents programs job content program so_far.are behind;
+      bytes_are = omega (arith, so_far.bytes_are, size_is, sum_by_push length so_far.contents content);
+    }
 
 one-more : (told : Option Files) (slot start : ℕ) (jobs : List ProgramJob) (job : ProgramJob) (programs : List Program) (bytes units size : ℕ) (program : Program)
     → ReadSoFar told slot start jobs programs bytes units
     → IsNextOn told job.file slot start bytes units job.form job.program job.drop.items (job_keeps job) size program
     → ReadSoFar told slot start (jobs ++ job ∷ []) (programs ++ program ∷ []) (bytes + size) (units + length program.units)
-one-more told slot start jobs job programs bytes units size program read next = record {
-  contents = read.contents ++ next.content ∷ [];
-  held = told-through told start jobs read.contents programs job [] next.content read.are.hold read.held next.held;
-  are = are-more slot start jobs read.contents programs job next.content program read.are
-      (next-at slot start bytes units (bytes_of_files read.contents) (units_of_programs programs) job.form job.program job.drop.items (job_keeps job) next.content program read.bytes_are read.units_are next.next);
-  bytes_are = let a = read.bytes_are in let b = next.size_is in let c = sum_by_push length read.contents next.content in omega arith;
-  units_are = let a = read.units_are in let c = sum_by_push (λ (p : Program). length p.units) programs program in omega arith;
-}
+one-more told slot start jobs job programs bytes units size program read next =
+    let count : units_of_programs (programs ++ program ∷ []) ≡ units_of_programs programs + length program.units = sum_by_push (λ (p : Program). length p.units) programs program in record {
+      read = record {
+        each = each-more slot start jobs programs job program read.read.each (record { read = next.read; within = keeps slot program next.within; share = next.near });
+        few_units = omega (arith, count, read.units_are, next.few_units);
+      };
+      units_are = omega (arith, count, read.units_are);
+      few_bytes = next.few_bytes;
+      held = told-more told slot start jobs job programs bytes units size program read next;
+    }
 
 -- the next program is read
 pub read-more : (told : Option Files) (slot start : ℕ) (jobs : List ProgramJob) (i : ℕ) (job : ProgramJob) (programs : List Program) (bytes units size : ℕ) (program : Program)
@@ -113,43 +142,28 @@ read-more told slot start jobs i job programs bytes units size program within is
     subst (λ (done : List ProgramJob). ReadSoFar told slot start done (programs ++ program ∷ []) (bytes + size) (units + length program.units)) (sym front)
     (one-more told slot start (take i jobs) job programs bytes units size program read next)
 
+-- what told files hold so far are programs of their contents
+are-in : (files : Files) (slot start : ℕ) (done : List ProgramJob) (programs : List Program) (bytes : ℕ) → HoldSoFar files slot start done programs bytes
+    → AreProgramsIn files slot start done programs
+are-in files slot start done programs bytes so_far = record {
+  contents = so_far.contents;
+  held = so_far.held;
+  are = next-of slot start done so_far.contents programs so_far.are;
+}
+
 -- all programs are read
 pub read-all : (told : Option Files) (job : Job) (programs : List Program) (bytes units : ℕ) → ReadSoFar told job.slot job.start job.programs programs bytes units
     → AreProgramsOn told job programs
-read-all told job programs bytes units read = record { contents = read.contents; held = read.held; are = next-of job.slot job.start job.programs read.contents programs read.are }
+read-all told job programs bytes units read = record {
+  read = read.read;
+  held = IfSome_then told read.held (λ files so_far. are-in files job.slot job.start job.programs programs bytes so_far);
+}
 
 -- ---- what stops
 
 split-at : (jobs : List ProgramJob) (i : ℕ) (job : ProgramJob) → i < length jobs → job ≡ get_or jobs i job → jobs ≡ take i jobs ++ job ∷ drop (i + 1) jobs
 split-at jobs i job within is =
     sym (take-append-drop i jobs) ∙ ap (λ (rest : List ProgramJob). take i jobs ++ rest) (drop_more jobs i job within ∙ ap (λ (j : ProgramJob). j ∷ drop (i + 1) jobs) (sym is))
-
-refused-on : (told : Option Files) (job : Job) (i : ℕ) (wanted : ProgramJob) (programs : List Program) (bytes units : ℕ) (fault : SourceFault)
-    → i < length job.programs → wanted ≡ get_or job.programs i wanted → ReadSoFar told job.slot job.start (take i job.programs) programs bytes units
-    → IsNextRefusedOn told wanted.file job.slot job.start bytes units wanted.form wanted.program wanted.drop.items (job_keeps wanted) i fault → IsRefusedOn told job fault
-refused-on told job i wanted programs bytes units fault within is read refused =
-    let split = split-at job.programs i wanted within is in
-    record {
-      contents = read.contents ++ refused.content ∷ [];
-      held = subst (λ (jobs : List ProgramJob). IfSome told (λ files. HoldContents files jobs (read.contents ++ refused.content ∷ []))) (sym split)
-          (told-through told job.start (take i job.programs) read.contents programs wanted (drop (i + 1) job.programs) refused.content read.are.hold read.held refused.held);
-      refused = record {
-        before = take i job.programs;
-        refused = wanted;
-        after = drop (i + 1) job.programs;
-        split = split;
-        read = read.contents;
-        content = refused.content;
-        further = [];
-        contents_are = refl;
-        programs = programs;
-        programs_are = next-of job.slot job.start (take i job.programs) read.contents programs read.are;
-        number = refused.place_is ∙ sym (length-take-le i job.programs (omega arith));
-        refusal = refused-of job.slot job.start read.contents programs wanted refused.content fault.kind fault.at
-            (refused-at job.slot job.start bytes units (bytes_of_files read.contents) (units_of_programs programs) wanted.form wanted.program wanted.drop.items (job_keeps wanted) refused.content fault.kind fault.at
-            read.bytes_are read.units_are refused.refused);
-      };
-    }
 
 stops-at : (told : Option Files) (job : Job) (i : ℕ) (wanted : ProgramJob) (programs : List Program) (bytes units number : ℕ)
     → i < length job.programs → wanted ≡ get_or job.programs i wanted → ReadSoFar told job.slot job.start (take i job.programs) programs bytes units
@@ -159,10 +173,54 @@ stops-at told job i wanted programs bytes units number within is read number_is 
   after = drop (i + 1) job.programs;
   split = split-at job.programs i wanted within is;
   number_is = number_is ∙ sym (length-take-le i job.programs (omega arith));
-  contents = read.contents;
-  held = read.held;
   programs = programs;
-  programs_are = next-of job.slot job.start (take i job.programs) read.contents programs read.are;
+  read = read.read;
+  held = IfSome_then told read.held (λ files so_far. are-in files job.slot job.start (take i job.programs) programs bytes so_far);
+}
+
+refused-in : (files : Files) (job : Job) (i : ℕ) (wanted : ProgramJob) (programs : List Program) (bytes units : ℕ) (fault : SourceFault)
+    → i < length job.programs → wanted ≡ get_or job.programs i wanted → ReadSoFar (Some files) job.slot job.start (take i job.programs) programs bytes units
+    → IsNextRefusedOn (Some files) wanted.file job.slot job.start bytes units wanted.form wanted.program wanted.drop.items (job_keeps wanted) i fault → IsRefusedIn files job fault
+refused-in files job i wanted programs bytes units fault within is read refused =
+    let split = split-at job.programs i wanted within is in
+    let so_far : HoldSoFar files job.slot job.start (take i job.programs) programs bytes = read.held in
+    let at = in-files files wanted.file refused.held in
+    let content : List ℕ = at.0 in
+    record {
+      contents = so_far.contents ++ content ∷ [];
+      held = subst (λ (jobs : List ProgramJob). HoldContents files jobs (so_far.contents ++ content ∷ [])) (sym split)
+          (held-through files job.start (take i job.programs) so_far.contents programs wanted (drop (i + 1) job.programs) content so_far.are.hold so_far.held at.1);
+      first = record {
+        before = take i job.programs;
+        refused = wanted;
+        after = drop (i + 1) job.programs;
+        split = split;
+        read = so_far.contents;
+        content = content;
+        further = [];
+        contents_are = refl;
+        programs = programs;
+        programs_are = next-of job.slot job.start (take i job.programs) so_far.contents programs so_far.are;
+        number = refused.place_is ∙ sym (length-take-le i job.programs (omega arith));
+        refusal = refused-of job.slot job.start so_far.contents programs wanted content fault.kind fault.at
+            (refused-at job.slot job.start bytes units (bytes_of_files so_far.contents) (units_of_programs programs) wanted.form wanted.program wanted.drop.items (job_keeps wanted) content fault.kind fault.at
+            so_far.bytes_are read.units_are at.2);
+      };
+    }
+
+told-refused : (told : Option Files) (job : Job) (i : ℕ) (wanted : ProgramJob) (programs : List Program) (bytes units : ℕ) (fault : SourceFault)
+    → i < length job.programs → wanted ≡ get_or job.programs i wanted → ReadSoFar told job.slot job.start (take i job.programs) programs bytes units
+    → IsNextRefusedOn told wanted.file job.slot job.start bytes units wanted.form wanted.program wanted.drop.items (job_keeps wanted) i fault → IfSome told (λ files. IsRefusedIn files job fault)
+told-refused None job i wanted programs bytes units fault within is read refused = tt
+told-refused (Some files) job i wanted programs bytes units fault within is read refused = refused-in files job i wanted programs bytes units fault within is read refused
+
+refused-on : (told : Option Files) (job : Job) (i : ℕ) (wanted : ProgramJob) (programs : List Program) (bytes units : ℕ) (fault : SourceFault)
+    → i < length job.programs → wanted ≡ get_or job.programs i wanted → ReadSoFar told job.slot job.start (take i job.programs) programs bytes units
+    → IsNextRefusedOn told wanted.file job.slot job.start bytes units wanted.form wanted.program wanted.drop.items (job_keeps wanted) i fault → IsRefusedOn told job fault
+refused-on told job i wanted programs bytes units fault within is read refused = record {
+  refused = wanted;
+  stops = stops-at told job i wanted programs bytes units fault.program within is read refused.place_is;
+  held = told-refused told job i wanted programs bytes units fault within is read refused;
 }
 
 -- a program isn't read: so the job's programs aren't, for its cause

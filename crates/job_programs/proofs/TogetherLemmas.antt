@@ -6,7 +6,8 @@ use Rattle.version_table.specs.Table.{greatest}
 use Rattle.program_reader.specs.declared.program.UnitSource.{UnitSource}
 use Rattle.program_reader.specs.declared.unit_sizes.UnitSizes.{UnitSizes}
 use Rattle.job_programs.specs.Distortions.{AreNear, greatest_weighed, weighed_together}
-use Rattle.job_programs.proofs.NearLemmas.{IsUnitNear, Weighs, near-parts, no_unit, sizes-from}
+use Rattle.program_reader.proofs.Missing.{no_unit}
+use Rattle.job_programs.proofs.NearLemmas.{IsUnitNear, Weighs, near-parts, sizes-from}
 
 -- those of the unit at a place and of the others behind it
 pub together-at : (weight drift : ℕ) (units : List UnitSource) (sizes : List UnitSizes) (k : ℕ) (own : UnitSizes) (n : ℕ) → k < length units → length sizes ≡ length units

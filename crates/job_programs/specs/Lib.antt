@@ -2,7 +2,9 @@ pub mod Distortions
 pub mod Share
 pub mod Programs
 pub mod Probe
+pub mod Read
 pub mod Alone
 pub mod Sizes
 pub mod Told
+pub mod Passed
 pub mod Private

@@ -2,4 +2,6 @@
 pub mod Alone
 pub mod Behind
 pub mod Next
+pub mod Passed
 pub mod ReadSoFar
+pub mod Sized

@@ -1,7 +1,7 @@
 -- The files of a job's programs on a shelf, where it tells them.
 use Rattle.std.specs.Prelude.{◌≡◌, ◌⊎◌, ℕ, ◌+◌, ◌<◌, ◌≤◌, max, List, [], ◌∷◌, ◌++◌, length, map, Contains, Option, None, Some, IfSome}
 use Rattle.std.specs.FinMap.{get}
-use Rattle.shelf_io.specs.Files.{Files, Lacks}
+use Rattle.shelf_io.specs.Files.{Files, IfTold, Lacks}
 use Rattle.shelf_io.specs.Counts.{Rose, ShelfCounts}
 use Rattle.job_report.specs.declared.job.Job.{Job}
 use Rattle.job_report.specs.declared.job.ProgramJob.{ProgramJob}
@@ -11,7 +11,8 @@ use Rattle.job_programs.specs.declared.source_fault.SourceFault.{SourceFault}
 use Rattle.job_programs.specs.declared.source_fault.ProgramsFault.{ProgramsFault}
 use Rattle.job_programs.specs.declared.source_fault.ProgramsFault.TheVariants.{Refused, Failed, Missing, OutOfMemory}
 use Rattle.job_programs.specs.Probe.{IsProbed, IsProbeRefused}
-use Rattle.job_programs.specs.Programs.{AreNextPrograms, ArePrograms, IsFirstRefused}
+use Rattle.job_programs.specs.Programs.{AreNextPrograms, IsFirstRefused}
+use Rattle.job_programs.specs.Read.{AreReadFor, AreReadPrograms, IsReadProbed}
 
 -- ---- contents
 
@@ -27,28 +28,39 @@ HoldContents files (job ∷ jobs) (content ∷ contents) = (get files job.file �
 
 -- ---- the programs of a job
 
--- the programs of a job, by the contents of their files, which the shelf holds where it tells them
+-- programs of a job, by the contents of their files
+pub record AreProgramsIn (files : Files) (slot start : ℕ) (jobs : List ProgramJob) (programs : List Program) : Type 0 where
+  pub contents : List (List ℕ)
+  pub held : HoldContents files jobs contents
+  pub are : AreNextPrograms slot start [] [] jobs contents programs
+
+-- the first refusal among the programs of a job, by the contents of their files
+pub record IsRefusedIn (files : Files) (job : Job) (fault : SourceFault) : Type 0 where
+  pub contents : List (List ℕ)
+  pub held : HoldContents files job.programs contents
+  pub first : IsFirstRefused job contents fault
+
+-- The programs of a job were read. Where the shelf tells its files they are those of their contents; a file that isn't told may be another one each time that
+-- it is read.
 pub record AreProgramsOn (told : Option Files) (job : Job) (programs : List Program) : Type 0 where
-  pub contents : List (List ℕ)
-  pub held : IfSome told (λ files. HoldContents files job.programs contents)
-  pub are : ArePrograms job contents programs
+  pub read : AreReadPrograms job programs
+  pub held : IfSome told (λ files. AreProgramsIn files job.slot job.start job.programs programs)
 
--- the first refusal among the programs of a job, by the contents of their files, which the shelf holds where it tells them
-pub record IsRefusedOn (told : Option Files) (job : Job) (fault : SourceFault) : Type 0 where
-  pub contents : List (List ℕ)
-  pub held : IfSome told (λ files. HoldContents files job.programs contents)
-  pub refused : IsFirstRefused job contents fault
-
--- the file of the program of this number wasn't read: those before it hold programs
+-- The file of the program of this number wasn't read, or it is refused: those before it were read.
 pub record StopsAtProgram (told : Option Files) (job : Job) (number : ℕ) (stopped : ProgramJob) : Type 0 where
   pub before : List ProgramJob
   pub after : List ProgramJob
   pub split : job.programs ≡ before ++ stopped ∷ after
   pub number_is : number ≡ length before
-  pub contents : List (List ℕ)
-  pub held : IfSome told (λ files. HoldContents files before contents)
   pub programs : List Program
-  pub programs_are : AreNextPrograms job.slot job.start [] [] before contents programs
+  pub read : AreReadFor job.slot job.start before programs
+  pub held : IfSome told (λ files. AreProgramsIn files job.slot job.start before programs)
+
+-- A program of a job is refused, and those before it were read. Where the shelf tells its files it is the first refusal among them.
+pub record IsRefusedOn (told : Option Files) (job : Job) (fault : SourceFault) : Type 0 where
+  pub refused : ProgramJob
+  pub stops : StopsAtProgram told job fault.program refused
+  pub held : IfSome told (λ files. IsRefusedIn files job fault)
 
 -- the file of the program of this number isn't held: those before it hold programs
 pub record IsMissingOn (files : Files) (job : Job) (number : ℕ) : Type 0 where
@@ -68,18 +80,15 @@ HasReadCause told job old new since_fault OutOfMemory = Unit {0}
 
 -- ---- a file that is probed
 
--- the program of a file that is probed, by its content, which the shelf holds where it tells it
+-- the program of a file that is probed was read; where the shelf tells the file it is that of its content
 pub record IsProbedOn (told : Option Files) (name : List ℕ) (slot start number : ℕ) (drop : List ℕ) (program : Program) : Type 0 where
-  pub content : List ℕ
-  pub held : HoldsContent told name content
-  pub probed : IsProbed slot start number drop content program
+  pub read : IsReadProbed slot start number drop program
+  pub held : IfTold told name (λ content. IsProbed slot start number drop content program)
 
--- the refusal of a file that is probed, as that of the first program of a job
+-- the refusal of a file that is probed, as that of the first program of a job; where the shelf tells the file it is that of its content
 pub record IsProbeRefusedOn (told : Option Files) (name : List ℕ) (slot start number : ℕ) (drop : List ℕ) (fault : SourceFault) : Type 0 where
   pub first : fault.program ≡ 0
-  pub content : List ℕ
-  pub held : HoldsContent told name content
-  pub refused : IsProbeRefused slot start number drop content fault.kind fault.at
+  pub held : IfTold told name (λ content. IsProbeRefused slot start number drop content fault.kind fault.at)
 
 -- Why a file that is read for one program has none: it is refused; a read failed, where the count of faults rose, or the file isn't held, where the count of
 -- absences rose, and no call followed; or want of memory.

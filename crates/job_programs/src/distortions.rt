@@ -3,29 +3,33 @@
 ghost use Rattle.std.specs.Prelude.{◌≡◌, ◌≤◌, ◌<◌, ◌*◌, ◌⊎◌, ◌↔◌, IsTrue, true, false, All, length, map};
 ghost use Rattle.job_report.specs.declared.limits.TheConstants.{DRIFT_MOST, WEIGHT_MOST};
 ghost use Rattle.version_table.specs.Table.{greatest};
-ghost use Rattle.program_reader.specs.Sizes.{AreProgramSizes};
+ghost use Rattle.program_reader.specs.declared.program.Program.{Program as AnyProgram};
 ghost use Rattle.job_programs.specs.Distortions.{AreNear, KeepsDistortions, weighed_together};
+ghost use Rattle.job_programs.specs.Private.Sized.{IsSizedBy};
 
 use crate::limits::{PROGRAM_DISTORTIONS_LIMIT, UNITS_OF_ANY_DISTORTION};
 use crate::next::Wanted;
 use job_report::limits::DRIFT_DEFAULT;
-use program_reader::{SizedProgram, UnitSizes, UnitSource, unit_weight};
+use program_reader::{UnitSizes, UnitSource, unit_weight};
 use version_maker::VersionSize;
 use version_table::limits::DISTORTION_LIMIT;
 
-/// True where the distortions of a program keep the limits of tables at the weight and the drift that are wanted.
-pub(crate) fn keeps_distortions(sized: &SizedProgram, wanted: &Wanted<'_>) -> bool
+/// True where the distortions of the units of a program keep the limits of tables at the weight and the drift that are wanted.
+pub(crate) fn keeps_distortions(
+    units: &[UnitSource],
+    sizes: &[UnitSizes],
+    wanted: &Wanted<'_>,
+) -> bool
     requires weight { wanted.now.weight ≤ WEIGHT_MOST }
     requires drift { wanted.now.drift ≤ DRIFT_MOST }
-    requires sizes { (0 < wanted.now.drift) ⊎ (UNITS_OF_ANY_DISTORTION < length sized.now.program.units)
-        → AreProgramSizes sized.now.program wanted.now.coarser.now sized.now.sizes }
-    ensures { IsTrue result ↔ KeepsDistortions wanted.now.weight wanted.now.drift wanted.now.coarser.now sized.now.program }
+    requires sizes { (program : AnyProgram) × IsSizedBy program wanted.now.coarser.now units.now sizes.now }
+    ensures { (program : AnyProgram) → IsSizedBy program wanted.now.coarser.now units.now sizes.now
+        → IsTrue result ↔ KeepsDistortions wanted.now.weight wanted.now.drift wanted.now.coarser.now program }
 {
-    let units = sized.program.units.as_slice();
     if !can_reach_limits(wanted.drift, units.len()) {
         return true;
     }
-    is_near(units, sized.sizes.as_slice(), wanted.weight, wanted.drift)
+    is_near(units, sizes, wanted.weight, wanted.drift)
 }
 
 /// True where the distortions of so many units may reach the limits, whatever the weight.

@@ -1,15 +1,25 @@
 //! Laws of the definitions, each the contract of a function that does nothing.
 
-ghost use Rattle.std.specs.Prelude.{◌≡◌, ℕ, List, Some};
+ghost use Rattle.std.specs.Prelude.{◌≡◌, ℕ, List, All, Some};
+ghost use Rattle.bit_lists.specs.Fields.{AreBytes};
 ghost use Rattle.shelf_io.specs.Files.{Files};
 ghost use Rattle.job_report.specs.declared.job.Job.{Job};
 ghost use Rattle.program_reader.specs.declared.program.Program.{Program};
 ghost use Rattle.job_programs.specs.declared.source_fault.SourceFault.{SourceFault};
 ghost use Rattle.job_programs.specs.Alone.{IsAloneOn, IsAloneRefusedOn};
 ghost use Rattle.job_programs.specs.Programs.{ArePrograms, IsFirstRefused};
+ghost use Rattle.job_programs.specs.Read.{AreReadPrograms};
 ghost use Rattle.job_programs.specs.Told.{AreProgramsOn, IsMissingOn, IsProbedOn, IsProbeRefusedOn, IsRefusedOn};
 
-use program_reader::laws::one_answer;
+use program_reader::laws::{one_answer, programs_of_files_are_read};
+
+/// The programs of a job, by the contents of its files, are programs that were read, where their videos are bytes.
+pub fn programs_of_contents_are_read()
+    ensures { (job : Job) (contents : List (List ℕ)) (programs : List Program) → ArePrograms job contents programs → All (λ program. AreBytes program.video) programs
+        → AreReadPrograms job programs }
+{
+    programs_of_files_are_read();
+}
 
 /// By given contents of its files a job has one list of programs, or one first refusal, and never both.
 pub fn contents_have_one_answer()

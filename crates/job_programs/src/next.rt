@@ -1,26 +1,26 @@
 //! One program behind others: its file is read, and its program taken out of it.
 
-ghost use Rattle.std.specs.Prelude.{◌≡◌, ◌+◌, ◌≤◌, ◌<◌, true, length, IfOk, IfErr, IsErrAnd, MatchResult};
+ghost use Rattle.std.specs.Prelude.{◌≡◌, ◌+◌, ◌≤◌, ◌<◌, length, IfOk, IfErr, IsErrAnd, MatchResult};
 ghost use Rattle.job_report.specs.declared.limits.TheConstants.{DRIFT_MOST, START_MOST, WEIGHT_MOST};
 ghost use Rattle.shelf_io.specs.Asked.{AsksUpTo};
 ghost use Rattle.version_table.specs.declared.limits.TheConstants.{SLOT_MOST};
 ghost use Rattle.program_reader.specs.Programs.{IsProgramOfFile, IsProgramRefused};
+ghost use Rattle.program_reader.specs.ReadProgram.{IsReadProgram};
 ghost use Rattle.program_reader.specs.Sizes.{AreProgramSizes};
-ghost use Rattle.job_programs.specs.declared.limits.TheConstants.{UNITS_OF_ANY_DISTORTION};
 ghost use Rattle.job_programs.specs.Share.{KeepsShare};
 ghost use Rattle.job_programs.specs.Told.{CountReads, EndsFailed, EndsMissing, ReadsEnd};
 ghost use Rattle.job_programs.specs.Private.Behind.{IsProgramBehind};
 ghost use Rattle.job_programs.specs.Private.Next.{IsContentFault, IsNextOn, HasNextCause, IsNextFault};
 
-use crate::limits::UNITS_OF_ANY_DISTORTION;
 use crate::share::keeps_share;
 use crate::source_fault::{ProgramsFault, SourceFault};
 use crate::times::is_within_time;
 use job_report::Form;
 use list_types::ListOf;
+use program_reader::laws::{programs_of_files_are_read, see_bytes};
 use program_reader::limits::{FILE_BYTES_MOST, UNITS_MOST};
 use program_reader::{
-    Program, ProgramFault, SizedProgram, SourceKind, UnitSizes, read_program, read_sized_program,
+    Program, ProgramFault, SizedProgram, SourceKind, UnitSizes, read_sized_program,
 };
 use shelf_io::{Fault, Shelf, read_file};
 use std::alloc::Global;
@@ -47,8 +47,7 @@ pub(crate) struct Wanted<'a> {
     /// What its distortions count, and how much more for each coded frame with a P picture behind.
     pub weight: u8,
     pub drift: u8,
-    /// True where the sizes of its units' versions are wanted, at these ratios in sixteenths; with a drift they are.
-    pub is_sized: bool,
+    /// The ratios of its units' versions, in sixteenths.
     pub coarser: &'a [u16],
 }
 
@@ -56,7 +55,7 @@ pub(crate) struct Wanted<'a> {
 #[derive(Drop)]
 pub(crate) struct NextProgram {
     pub program: Program,
-    /// Of each of its units, where they are wanted.
+    /// Of each of its units.
     pub sizes: ListOf<UnitSizes>,
     pub size: usize,
 }
@@ -74,10 +73,9 @@ pub(crate) fn read_next<K: Shelf>(
     requires coarser { length wanted.now.coarser.now < VERSIONS_MOST }
     requires weight { wanted.now.weight ≤ WEIGHT_MOST }
     requires drift { wanted.now.drift ≤ DRIFT_MOST }
-    requires sized { 0 < wanted.now.drift → wanted.now.is_sized ≡ true }
     ensures next { IfOk result (λ next. IsNextOn (K.files shelf.old) wanted.now.file.now wanted.now.slot wanted.now.start wanted.now.bytes wanted.now.units
         wanted.now.form wanted.now.number wanted.now.drop.now (KeepsShare wanted.now.weight wanted.now.drift wanted.now.coarser.now) next.size next.program) }
-    ensures sizes { IfOk result (λ next. wanted.now.is_sized ≡ true → AreProgramSizes next.program wanted.now.coarser.now next.sizes) }
+    ensures sizes { IfOk result (λ next. AreProgramSizes next.program wanted.now.coarser.now next.sizes) }
     ensures cause { IfErr result (HasNextCause (K.files shelf.old) wanted.now.file.now wanted.now.slot wanted.now.start wanted.now.bytes wanted.now.units
         wanted.now.form wanted.now.number wanted.now.drop.now (KeepsShare wanted.now.weight wanted.now.drift wanted.now.coarser.now) wanted.now.place (K.counts shelf.old) (K.counts shelf.new) (K.since_fault shelf.new)) }
 
@@ -108,10 +106,10 @@ fn from_content(
     requires coarser { length wanted.now.coarser.now < VERSIONS_MOST }
     requires weight { wanted.now.weight ≤ WEIGHT_MOST }
     requires drift { wanted.now.drift ≤ DRIFT_MOST }
-    requires sized { 0 < wanted.now.drift → wanted.now.is_sized ≡ true }
     ensures next { IfOk result (λ next. (next.size ≡ length content.now) × IsProgramBehind wanted.now.slot wanted.now.start wanted.now.bytes wanted.now.units
         wanted.now.form wanted.now.number wanted.now.drop.now (KeepsShare wanted.now.weight wanted.now.drift wanted.now.coarser.now) content.now next.program) }
-    ensures sizes { IfOk result (λ next. wanted.now.is_sized ≡ true → AreProgramSizes next.program wanted.now.coarser.now next.sizes) }
+    ensures read { IfOk result (λ next. IsReadProgram wanted.now.start next.program) }
+    ensures sizes { IfOk result (λ next. AreProgramSizes next.program wanted.now.coarser.now next.sizes) }
     ensures fault { IfErr result (IsContentFault wanted.now.slot wanted.now.start wanted.now.bytes wanted.now.units
         wanted.now.form wanted.now.number wanted.now.drop.now (KeepsShare wanted.now.weight wanted.now.drift wanted.now.coarser.now) wanted.now.place content.now) }
 {
@@ -143,16 +141,16 @@ fn next_program(
     requires coarser { length wanted.now.coarser.now < VERSIONS_MOST }
     requires weight { wanted.now.weight ≤ WEIGHT_MOST }
     requires drift { wanted.now.drift ≤ DRIFT_MOST }
-    requires sized { 0 < wanted.now.drift → wanted.now.is_sized ≡ true }
     ensures program { MatchResult result
         (λ next. IsProgramBehind wanted.now.slot wanted.now.start wanted.now.bytes wanted.now.units wanted.now.form wanted.now.number wanted.now.drop.now (KeepsShare wanted.now.weight wanted.now.drift wanted.now.coarser.now) content.now next.program)
         (IsNextFault wanted.now.slot wanted.now.start wanted.now.bytes wanted.now.units wanted.now.form wanted.now.number wanted.now.drop.now (KeepsShare wanted.now.weight wanted.now.drift wanted.now.coarser.now) content.now) }
-    ensures sizes { IfOk result (λ next. wanted.now.is_sized ≡ true → AreProgramSizes next.program wanted.now.coarser.now next.sizes) }
+    ensures read { IfOk result (λ next. IsReadProgram wanted.now.start next.program) }
+    ensures sizes { IfOk result (λ next. AreProgramSizes next.program wanted.now.coarser.now next.sizes) }
 {
     if content.len() > FILE_BYTES_MOST - wanted.bytes {
         return Err(passes_limit());
     }
-    let sized = wanted_program(alloc, content, wanted)?;
+    let sized = sized_program(alloc, content, wanted)?;
     if sized.program.units.len() > UNITS_MOST - wanted.units {
         return Err(passes_limit());
     }
@@ -162,49 +160,9 @@ fn next_program(
     if !keeps_share(&sized, wanted) {
         return Err(passes_limit());
     }
+    programs_of_files_are_read();
+    see_bytes(sized.program.video.as_slice());
     Ok(sized)
-}
-
-/// The program in the bytes of its file by itself, with the sizes of its units' versions where they are wanted, or where it has many units.
-fn wanted_program(
-    alloc: Global,
-    content: &[u8],
-    wanted: &Wanted<'_>,
-) -> Result<SizedProgram, ProgramFault>
-    requires start { wanted.now.start ≤ START_MOST }
-    requires coarser { length wanted.now.coarser.now < VERSIONS_MOST }
-    ensures program { MatchResult result (λ sized. IsProgramOfFile wanted.now.form content.now wanted.now.number wanted.now.drop.now wanted.now.start sized.program)
-        (IsProgramRefused wanted.now.form content.now wanted.now.number wanted.now.drop.now) }
-    ensures sizes { IfOk result (λ sized. wanted.now.is_sized ≡ true → AreProgramSizes sized.program wanted.now.coarser.now sized.sizes) }
-    ensures many { IfOk result (λ sized. UNITS_OF_ANY_DISTORTION < length sized.program.units → AreProgramSizes sized.program wanted.now.coarser.now sized.sizes) }
-{
-    if wanted.is_sized {
-        return match sized_program(alloc, content, wanted) {
-            Ok(sized) => Ok(sized),
-            Err(fault) => Err(fault),
-        };
-    }
-    let program = match read_program(
-        alloc,
-        content,
-        wanted.form,
-        wanted.number,
-        wanted.drop,
-        wanted.start,
-    ) {
-        Ok(program) => program,
-        Err(fault) => return Err(fault),
-    };
-    if program.units.len() > UNITS_OF_ANY_DISTORTION {
-        return match sized_program(alloc, content, wanted) {
-            Ok(sized) => Ok(sized),
-            Err(fault) => Err(fault),
-        };
-    }
-    Ok(SizedProgram {
-        program,
-        sizes: ListOf::new(alloc),
-    })
 }
 
 /// The program in the bytes of its file by itself, with the sizes of its units' versions.

@@ -1,4 +1,4 @@
-ghost use Rattle.std.specs.Prelude.{◌≡◌, ◌+◌, ◌≤◌, ◌<◌, true, IfOk, IfErr, IsErrAnd};
+ghost use Rattle.std.specs.Prelude.{◌≡◌, ◌≤◌, IfOk, IfErr, IsErrAnd};
 ghost use Rattle.job_report.specs.ValidJob.{IsValidJob};
 ghost use Rattle.job_programs.specs.Sizes.{AreJobSizes};
 ghost use Rattle.job_programs.specs.Told.{AreProgramsOn, AsksForPrograms, CountReads, EndsFailed, EndsMissing, HasReadCause, ReadsEnd};
@@ -19,29 +19,9 @@ pub struct SizedPrograms {
     pub sizes: ListOf<ListOf<UnitSizes>>,
 }
 
-/// The programs of a job, read from their files in order, or why they aren't: the first refusal, a file that can't be read or
-/// isn't there, or want of memory. No file is changed. Of a file no more is kept than its program.
-pub fn read_programs<K: Shelf>(
-    alloc: Global,
-    shelf: &mut K,
-    job: &Job,
-) -> Result<ListOf<Program>, ProgramsFault>
-    requires { IsValidJob job.now }
-    ensures programs { IfOk result (AreProgramsOn (K.files shelf.old) job.now) }
-    ensures cause { IfErr result (HasReadCause (K.files shelf.old) job.now (K.counts shelf.old) (K.counts shelf.new) (K.since_fault shelf.new)) }
-
-    ensures files { K.files shelf.new ≡ K.files shelf.old }
-    ensures asked { AsksForPrograms job.now.programs (K.asked shelf.old) (K.asked shelf.new) }
-    ensures counts { CountReads (K.counts shelf.old) (K.counts shelf.new) }
-    ensures ends { ReadsEnd (IsErrAnd result EndsFailed) (IsErrAnd result EndsMissing) (K.counts shelf.old) (K.counts shelf.new) (K.since_fault shelf.new) }
-{
-    match read_each(alloc, shelf, job, false) {
-        Ok(read) => Ok(read.programs),
-        Err(fault) => Err(fault),
-    }
-}
-
-/// The same with the sizes of all versions of their units, at the ratios that the job gives each program. A unit is read once for both.
+/// The programs of a job, read from their files in order, with the sizes of all versions of their units, at the ratios that the job gives
+/// each program, or why they aren't: the first refusal, a file that can't be read or isn't there, or want of memory. A unit is read once for
+/// both. No file is changed. Of a file no more is kept than its program.
 pub fn read_sized_programs<K: Shelf>(
     alloc: Global,
     shelf: &mut K,
@@ -50,29 +30,6 @@ pub fn read_sized_programs<K: Shelf>(
     requires { IsValidJob job.now }
     ensures programs { IfOk result (λ read. AreProgramsOn (K.files shelf.old) job.now read.programs) }
     ensures sizes { IfOk result (λ read. AreJobSizes job.now.programs read.programs read.sizes) }
-    ensures cause { IfErr result (HasReadCause (K.files shelf.old) job.now (K.counts shelf.old) (K.counts shelf.new) (K.since_fault shelf.new)) }
-
-    ensures files { K.files shelf.new ≡ K.files shelf.old }
-    ensures asked { AsksForPrograms job.now.programs (K.asked shelf.old) (K.asked shelf.new) }
-    ensures counts { CountReads (K.counts shelf.old) (K.counts shelf.new) }
-    ensures ends { ReadsEnd (IsErrAnd result EndsFailed) (IsErrAnd result EndsMissing) (K.counts shelf.old) (K.counts shelf.new) (K.since_fault shelf.new) }
-{
-    match read_each(alloc, shelf, job, true) {
-        Ok(read) => Ok(read),
-        Err(fault) => Err(fault),
-    }
-}
-
-/// The programs of a job in order, with the sizes of their units where these are wanted.
-fn read_each<K: Shelf>(
-    alloc: Global,
-    shelf: &mut K,
-    job: &Job,
-    are_sized: bool,
-) -> Result<SizedPrograms, ProgramsFault>
-    requires { IsValidJob job.now }
-    ensures programs { IfOk result (λ read. AreProgramsOn (K.files shelf.old) job.now read.programs) }
-    ensures sizes { IfOk result (λ read. are_sized ≡ true → AreJobSizes job.now.programs read.programs read.sizes) }
     ensures cause { IfErr result (HasReadCause (K.files shelf.old) job.now (K.counts shelf.old) (K.counts shelf.new) (K.since_fault shelf.new)) }
 
     ensures files { K.files shelf.new ≡ K.files shelf.old }
@@ -102,7 +59,6 @@ fn read_each<K: Shelf>(
                 units,
                 weight: wanted.weight,
                 drift: wanted.drift,
-                is_sized: wants_sizes(are_sized, wanted.drift),
                 coarser: wanted.coarser.as_slice(),
             },
         )?;
@@ -113,12 +69,4 @@ fn read_each<K: Shelf>(
         place += 1;
     }
     Ok(SizedPrograms { programs, sizes })
-}
-
-/// True where the sizes of units are wanted, or a drift wants them.
-fn wants_sizes(are_sized: bool, drift: u8) -> bool
-    ensures asked { are_sized ≡ true → result ≡ true }
-    ensures drift { 0 < drift → result ≡ true }
-{
-    are_sized || drift > 0
 }

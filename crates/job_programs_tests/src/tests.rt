@@ -1,20 +1,19 @@
-ghost use Rattle.std.specs.Prelude.{◌<◌, ◌≤◌, length, IfOk};
-ghost use Rattle.std.specs.Option.{option_copied};
-ghost use Rattle.picture_grammar.specs.Picture.{IsState, MayPrecede};
+ghost use Rattle.std.specs.Prelude.{◌<◌, ◌≤◌, length};
 
 use job_programs::{
-    ProgramsFault, SizedPrograms, SourceFault, read_one, read_programs, read_sized_programs,
+    PassedPrograms, ProgramsFault, SizedPrograms, SourceFault, pass_one, pass_sized_programs,
+    read_sized_programs,
 };
 use job_report::limits::{COARSER_DEFAULT, PROBE_SLOT, START_DEFAULT};
-use job_report::read_job;
-use picture_reader::check_picture;
+use job_report::{Form, read_job};
 use program_maker::make_program;
-use program_reader::{Program, SourceKind, UnitSizes};
+use program_reader::{SourceKind, UnitSizes, UnitSource, read_program};
 use shelf_io::Fault;
 use shelf_kinds::MemShelf;
 use std::alloc::Global;
 use std::test::Fail;
 use syntax_types::SeqState;
+use unit_states::state_behind;
 use version_maker::{PictureFault, UNIT_BYTES_MOST, sizes_of};
 use version_table::limits::VERSIONS_MOST;
 
@@ -36,13 +35,25 @@ const TWO_RATIOS_AND_ONE: &[u8] =
 fn units_of(alloc: Global, shelf: &mut MemShelf, text: &[u8]) -> Result<usize, ProgramsFault> {
     match read_job(alloc, text) {
         Ok(job) => {
-            let programs = read_programs(alloc, shelf, &job)?;
+            let read = pass_sized_programs(alloc, shelf, &job)?;
             let mut units = 0usize;
-            for program in programs.as_slice() {
+            for program in read.programs.as_slice() {
                 units = units.wrapping_add(program.units.len());
             }
             Ok(units)
         }
+        Err(_) => Err(ProgramsFault::OutOfMemory),
+    }
+}
+
+/// The programs of a job without the bytes of their streams, with the sizes of their units, or why they aren't read.
+fn passed(
+    alloc: Global,
+    shelf: &mut MemShelf,
+    text: &[u8],
+) -> Result<PassedPrograms, ProgramsFault> {
+    match read_job(alloc, text) {
+        Ok(job) => pass_sized_programs(alloc, shelf, &job),
         Err(_) => Err(ProgramsFault::OutOfMemory),
     }
 }
@@ -55,18 +66,18 @@ fn sized(alloc: Global, shelf: &mut MemShelf, text: &[u8]) -> Result<SizedProgra
     }
 }
 
-/// Whether these are the sizes of the units of a program, each sized by itself behind the state of the one before.
+/// Whether these are the sizes of units of a video, each sized by itself behind the state of the one before.
 fn are_sizes_of(
     alloc: Global,
-    program: &Program,
+    video: &[u8],
+    units: &[UnitSource],
     sizes: &[UnitSizes],
     coarser: &[u16],
 ) -> Result<bool, PictureFault>
     requires { length coarser.now < VERSIONS_MOST }
 {
-    let video = program.video.as_slice();
     let mut before: Option<SeqState> = None;
-    for (unit, own) in program.units.as_slice().iter().zip(sizes) {
+    for (unit, own) in units.iter().zip(sizes) {
         let bytes = unit_at(video, unit.begin as usize, unit.end as usize);
         let alone = sizes_of(alloc, bytes, before.as_ref(), coarser)?;
         if own.versions.as_slice() != alone.as_slice() {
@@ -75,7 +86,7 @@ fn are_sizes_of(
         let behind = state_behind(alloc, bytes, before.as_ref())?;
         before = Some(behind);
     }
-    Ok(program.units.len() == sizes.len())
+    Ok(units.len() == sizes.len())
 }
 
 /// The bytes between two places, as many as a unit may have.
@@ -85,22 +96,6 @@ fn unit_at(video: &[u8], begin: usize, end: usize) -> &[u8]
     let unit = video.get(begin..end).unwrap_or(&[]);
     let few = unit.len().min(UNIT_BYTES_MOST);
     &unit[..few]
-}
-
-/// The state behind a unit.
-fn state_behind(
-    alloc: Global,
-    unit: &[u8],
-    before: Option<&SeqState>,
-) -> Result<SeqState, PictureFault>
-    requires unit { length unit.now ≤ UNIT_BYTES_MOST }
-    requires before { MayPrecede (option_copied before) }
-    ensures { IfOk result IsState }
-{
-    match check_picture(alloc, unit, before) {
-        Ok(headers) => Ok(headers.seq),
-        Err(fault) => Err(fault),
-    }
 }
 
 /// A shelf that fails in these calls, whose file `a.ts` holds the generated program of twelve pictures.
@@ -190,12 +185,14 @@ fn a_number_that_no_program_has(rt: HostRuntime) -> Result<(), Fail> {
 fn a_probed_file(rt: HostRuntime) -> Result<(), Fail> {
     let alloc = rt.alloc();
     let mut shelf = shelf_of(alloc, Vec::new(alloc))?;
-    match read_one(alloc, &mut shelf, "a.ts", 1, &[], START_DEFAULT, PROBE_SLOT) {
+    let file = make_program(alloc, 1, 12)?;
+    let whole = read_program(alloc, file.as_slice(), Form::Ts, 1, &[], START_DEFAULT)?;
+    match pass_one(alloc, &mut shelf, "a.ts", 1, &[], START_DEFAULT, PROBE_SLOT) {
         Ok(read) => {
             assert_eq!(rt; read.program.units.len(), 12);
             match read.program.audios.as_slice() {
-                [audio] => {
-                    assert_eq!(rt; audio.pieces.len(), 80);
+                [pieces] => {
+                    assert_eq!(rt; pieces.len(), 80);
                 }
                 _ => {
                     assert!(rt; false);
@@ -203,7 +200,8 @@ fn a_probed_file(rt: HostRuntime) -> Result<(), Fail> {
             }
             let are = are_sizes_of(
                 alloc,
-                &read.program,
+                whole.video.as_slice(),
+                read.program.units.as_slice(),
                 read.sizes.as_slice(),
                 &COARSER_DEFAULT,
             );
@@ -214,7 +212,7 @@ fn a_probed_file(rt: HostRuntime) -> Result<(), Fail> {
             assert!(rt; false);
         }
     }
-    let other = read_one(alloc, &mut shelf, "a.ts", 2, &[], START_DEFAULT, PROBE_SLOT);
+    let other = pass_one(alloc, &mut shelf, "a.ts", 2, &[], START_DEFAULT, PROBE_SLOT);
     assert_eq!(rt; other.err(), Some(refused(0, SourceKind::NoProgram)));
     Ok(())
 }
@@ -226,9 +224,59 @@ fn programs_with_the_sizes_of_their_units(rt: HostRuntime) -> Result<(), Fail> {
     match sized(alloc, &mut shelf, TWO_RATIOS_AND_ONE) {
         Ok(read) => match (read.programs.as_slice(), read.sizes.as_slice()) {
             ([first, second], [of_first, of_second]) => {
-                let two = are_sizes_of(alloc, first, of_first.as_slice(), &[24, 48]);
+                let two = are_sizes_of(
+                    alloc,
+                    first.video.as_slice(),
+                    first.units.as_slice(),
+                    of_first.as_slice(),
+                    &[24, 48],
+                );
                 assert_eq!(rt; two, Ok(true));
-                let one = are_sizes_of(alloc, second, of_second.as_slice(), &[32]);
+                let one = are_sizes_of(
+                    alloc,
+                    second.video.as_slice(),
+                    second.units.as_slice(),
+                    of_second.as_slice(),
+                    &[32],
+                );
+                assert_eq!(rt; one, Ok(true));
+            }
+            _ => {
+                assert!(rt; false);
+            }
+        },
+        Err(fault) => {
+            assert_eq!(rt; fault, ProgramsFault::OutOfMemory);
+            assert!(rt; false);
+        }
+    }
+    Ok(())
+}
+
+#[test]
+fn programs_that_pass_with_the_sizes_of_their_units(rt: HostRuntime) -> Result<(), Fail> {
+    let alloc = rt.alloc();
+    let mut shelf = shelf_of(alloc, Vec::new(alloc))?;
+    let file = make_program(alloc, 1, 12)?;
+    let whole = read_program(alloc, file.as_slice(), Form::Ts, 1, &[], START_DEFAULT)?;
+    match passed(alloc, &mut shelf, TWO_RATIOS_AND_ONE) {
+        Ok(read) => match (read.programs.as_slice(), read.sizes.as_slice()) {
+            ([first, second], [of_first, of_second]) => {
+                let two = are_sizes_of(
+                    alloc,
+                    whole.video.as_slice(),
+                    first.units.as_slice(),
+                    of_first.as_slice(),
+                    &[24, 48],
+                );
+                assert_eq!(rt; two, Ok(true));
+                let one = are_sizes_of(
+                    alloc,
+                    whole.video.as_slice(),
+                    second.units.as_slice(),
+                    of_second.as_slice(),
+                    &[32],
+                );
                 assert_eq!(rt; one, Ok(true));
             }
             _ => {

@@ -25,13 +25,6 @@ fn list_of<T: Copy + Drop>(alloc: Global, items: &[T]) -> Result<ListOf<T>, OutO
     Ok(list)
 }
 
-/// A text of these characters.
-fn text_of(alloc: Global, characters: &str) -> Result<Text, OutOfMemory> {
-    let mut text = Text::new(alloc);
-    text.push_str(characters)?;
-    Ok(text)
-}
-
 fn is_line_of_plan(alloc: Global) -> Result<bool, OutOfMemory> {
     let plan = Report::Plan {
         bound: 9,
@@ -202,17 +195,17 @@ fn refusals_are_reported_with_their_status(rt: HostRuntime) -> Result<(), Fail> 
 }
 
 fn is_line_of_missing(alloc: Global, name: &str, want: &str) -> Result<bool, OutOfMemory> {
-    let name = text_of(alloc, name)?;
+    let name = Text::of(alloc, name)?;
     is_line(alloc, Report::Missing { name }, want)
 }
 
 fn is_line_of_unread(alloc: Global, name: &str, want: &str) -> Result<bool, OutOfMemory> {
-    let name = text_of(alloc, name)?;
+    let name = Text::of(alloc, name)?;
     is_line(alloc, Report::ReadFault { name }, want)
 }
 
 fn is_line_of_unwritten(alloc: Global, name: &str, want: &str) -> Result<bool, OutOfMemory> {
-    let name = text_of(alloc, name)?;
+    let name = Text::of(alloc, name)?;
     is_line(alloc, Report::WriteFault { name }, want)
 }
 

@@ -21,7 +21,7 @@ use Rattle.job_programs.specs.Programs.{AreNextPrograms, ArePrograms}
 use Rattle.program_table.specs.Table.{IsTableOf}
 use Rattle.job_stream.specs.Stream.{layout_of}
 use Rattle.job_stream.proofs.LayoutLemmas.{maps-count}
-use Rattle.job_stream.proofs.TakenMaps.{taken-written}
+use Rattle.program_reader.proofs.TakenMaps.{taken-written}
 use Rattle.job_stream.proofs.PieceSizes.{pieces-sized}
 use Rattle.job_stream.proofs.ReadPrograms.{AreReady}
 use Rattle.job_stream.proofs.RowLemmas.{SlotsNameTable, rows-there}

@@ -1,6 +1,5 @@
 pub mod LayoutLemmas
 pub mod LayoutRows
-mod Maps
 pub mod NamedVersions
 mod OneStream
 mod PieceLemmas
@@ -8,5 +7,4 @@ pub mod PieceSizes
 pub mod ReadPrograms
 pub mod RowLemmas
 pub mod StreamSize
-mod TakenMaps
 mod WriteLemmas

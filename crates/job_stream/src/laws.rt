@@ -10,6 +10,7 @@ ghost use Rattle.job_report.specs.declared.job.Job.{Job};
 ghost use Rattle.job_report.specs.ValidJob.{IsValidJob};
 ghost use Rattle.program_reader.specs.declared.program.Program.{Program};
 ghost use Rattle.job_programs.specs.Programs.{ArePrograms};
+ghost use Rattle.job_programs.specs.Read.{AreReadPrograms};
 ghost use Rattle.program_table.specs.Table.{IsTableOf};
 ghost use Rattle.job_stream.specs.Stream.{IsStreamIn, IsStreamOf, layout_of};
 ghost use Rattle.version_table.specs.declared.limits.TheConstants.{PROGRAMS_MOST};
@@ -25,8 +26,8 @@ use version_source::laws::{one_list_of_versions, programs_can_be_sent};
 
 /// The stream of a job has the bytes of one packet for each of its slots.
 pub fn stream_has_slots()
-    ensures { (job : Job) (contents : List (List ℕ)) (programs : List Program) (table : Table) (choice : List ℕ) (slots : SlotList) (stream : List ℕ)
-        → IsValidJob job → ArePrograms job contents programs → IsTableOf job programs table → IsValidTable table → Fits table choice
+    ensures { (job : Job) (programs : List Program) (table : Table) (choice : List ℕ) (slots : SlotList) (stream : List ℕ)
+        → IsValidJob job → AreReadPrograms job programs → IsTableOf job programs table → IsValidTable table → Fits table choice
         → IsSlotList table choice slots → IsStreamIn job programs choice slots stream → length stream ≡ PACKET_BYTES * slots.slots }
 {
     programs_can_be_sent();

@@ -5,7 +5,7 @@ ghost use Rattle.slot_rule.specs.SlotList.{IsSlotList};
 ghost use Rattle.version_table.specs.Table.{IsValidTable};
 ghost use Rattle.version_table.specs.Choice.{Fits};
 ghost use Rattle.job_report.specs.ValidJob.{IsValidJob};
-ghost use Rattle.job_programs.specs.Programs.{ArePrograms};
+ghost use Rattle.job_programs.specs.Read.{AreReadPrograms};
 ghost use Rattle.program_table.specs.Table.{IsTableOf};
 ghost use Rattle.job_stream.specs.Stream.{IsStreamIn};
 
@@ -24,7 +24,7 @@ use version_table::{Choice, Table};
 /// Writes the stream of a job's programs in the versions that the choice names, in these slots. After a fault a front of it was
 /// written. Failed is the sink's own; Missing never comes.
 ///
-/// It needs the programs of the job, their table, which is valid, a choice that fits it, and the table's slots under the choice.
+/// It needs programs that were read for the job, their table, which is valid, a choice that fits it, and the table's slots under the choice.
 pub fn write_job_stream<K: Sink>(
     alloc: Global,
     to: &mut K,
@@ -35,7 +35,7 @@ pub fn write_job_stream<K: Sink>(
     slots: &SlotList,
 ) -> Result<(), Fault>
     requires job { IsValidJob job.now }
-    requires programs { (contents : List (List ℕ)) × ArePrograms job.now contents programs.now }
+    requires programs { AreReadPrograms job.now programs.now }
     requires table { IsTableOf job.now programs.now table.now }
     requires valid { IsValidTable table.now }
     requires fits { Fits table.now choice.now }

@@ -16,7 +16,7 @@ same_lt a b c d low high = elim (cases_lt a b) [
 ]
 
 -- the same four bytes, the same code
-same_code : (test : ℕ → Bool) (a b : List ℕ) (p q : ℕ) → nat_lt (p + 3) (length a) ≡ nat_lt (q + 3) (length b)
+pub same_code : (test : ℕ → Bool) (a b : List ℕ) (p q : ℕ) → nat_lt (p + 3) (length a) ≡ nat_lt (q + 3) (length b)
     → slice_index a p ≡ slice_index b q → slice_index a (p + 1) ≡ slice_index b (q + 1) → slice_index a (p + 2) ≡ slice_index b (q + 2) → slice_index a (p + 3) ≡ slice_index b (q + 3)
     → has_code test a p ≡ has_code test b q
 same_code test a b p q within first second third value = rw (within, first, second, third, value) refl

@@ -1,5 +1,5 @@
-mod CodesAtSeams
-mod CountedPackets
+pub mod CodesAtSeams
+pub mod CountedPackets
 mod Examples
 mod LayerExamples
 mod PesHeaders

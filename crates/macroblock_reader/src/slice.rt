@@ -16,43 +16,41 @@ use bit_cursor::BitReader;
 use list_types::ListOf;
 use shelf_io::{Fault, Source};
 use std::alloc::Global;
-use syntax_types::{Macroblock, PicCoding, SeqState, Slice};
+use syntax_types::{Macroblock, PictureParameters, Slice};
 
 /// The slice of a macroblock row that the next bits spell (6.2.4), from behind its start code to the end of its last
 /// macroblock.
 pub fn read_slice<S: Source>(
     from: &mut BitReader<'_, S>,
-    seq: &SeqState,
-    coding: &PicCoding,
+    picture: PictureParameters<'_>,
     row: u8,
     alloc: Global,
 ) -> Result<Slice, SliceFault>
-    requires { IsCoding coding.now }
-    ensures ok { IfOk result (λ s. Reads (slice seq.now coding.now row) s from.old from.new) }
-    ensures exact { AnswersSpelling (slice seq.now coding.now row) refusal_told result from.old from.new }
-    ensures refused { IfErr result (λ fault. Explains (slice seq.now coding.now row) from.old (refusal_told fault)) }
+    requires { IsCoding picture.coding.now }
+    ensures ok { IfOk result (λ s. Reads (slice picture.entry.seq.now picture.entry.coding.now row) s from.old from.new) }
+    ensures exact { AnswersSpelling (slice picture.entry.seq.now picture.entry.coding.now row) refusal_told result from.old from.new }
+    ensures refused { IfErr result (λ fault. Explains (slice picture.entry.seq.now picture.entry.coding.now row) from.old (refusal_told fault)) }
     ensures advances { Advances from.old from.new }
 
     ensures failed { IsErrOf result (SliceFault.Outside Fault.Failed) → Rose (faults_of from.old) (faults_of from.new) }
     ensures missing { IsErrOf result (SliceFault.Outside Fault.Missing) → Rose (absences_of from.old) (absences_of from.new) }
     ensures keeps { KeepsSource from.old from.new }
 {
-    read_whole(from, seq, coding, row, alloc)
+    read_whole(from, picture, row, alloc)
 }
 
 fn read_whole<S: Source>(
     from: &mut BitReader<'_, S>,
-    seq: &SeqState,
-    coding: &PicCoding,
+    picture: PictureParameters<'_>,
     row: u8,
     alloc: Global,
 ) -> Result<Slice, SliceFault>
-    requires { IsCoding coding.now }
-    ensures { Answers (Unit {0}) (slice seq.now coding.now row) result from.old from.new }
+    requires { IsCoding picture.coding.now }
+    ensures { Answers (Unit {0}) (slice picture.entry.seq.now picture.entry.coding.now row) result from.old from.new }
 {
     let code = read_not_zero(from, SCALE_CODE_BITS)?;
     let info = read_info(from, alloc)?;
-    let macroblocks = read_macroblocks(from, seq, coding, alloc)?;
+    let macroblocks = read_macroblocks(from, picture, alloc)?;
     Ok(Slice {
         row,
         code,
@@ -64,18 +62,17 @@ fn read_whole<S: Source>(
 /// The macroblocks of a slice up to its close, which is left.
 fn read_macroblocks<S: Source>(
     from: &mut BitReader<'_, S>,
-    seq: &SeqState,
-    coding: &PicCoding,
+    picture: PictureParameters<'_>,
     alloc: Global,
 ) -> Result<ListOf<Macroblock>, SliceFault>
-    requires { IsCoding coding.now }
-    ensures { Answers (Unit {0}) (many (next_macroblock seq.now coding.now)) (answer_as (λ macroblocks. (macroblocks, tt)) result) from.old from.new }
+    requires { IsCoding picture.coding.now }
+    ensures { Answers (Unit {0}) (many (next_macroblock picture.entry.seq.now picture.entry.coding.now)) (answer_as (λ macroblocks. (macroblocks, tt)) result) from.old from.new }
 {
-    let mut cursor = SliceCursor::new(seq);
+    let mut cursor = SliceCursor::new(picture.seq);
     let mut macroblocks = ListOf::new(alloc);
     'macroblocks: loop {
         let mut macroblock = Macroblock::empty();
-        let is_more = cursor.next(from, coding, &mut macroblock)?;
+        let is_more = cursor.next(from, picture.coding, &mut macroblock)?;
         if !is_more {
             return Ok(macroblocks);
         }

@@ -9,8 +9,8 @@ use macroblock_reader::{SliceFault, read_macroblock, read_slice};
 use shelf_io::SliceSource;
 use std::alloc::Global;
 use syntax_types::{
-    B_PICTURE, FRAME_PICTURE, I_PICTURE, Macroblock, P_PICTURE, PicCoding, SeqState, Slice,
-    TOP_FIELD,
+    B_PICTURE, FRAME_PICTURE, I_PICTURE, Macroblock, P_PICTURE, PicCoding, PictureParameters,
+    SeqState, Slice, TOP_FIELD,
 };
 
 /// How the pictures of the tests are coded.
@@ -190,7 +190,13 @@ pub fn slice_of(
     let mut reader = BitReader::new(&mut source);
     let _ = reader.bits(filling(count));
     let skipped = reader.place();
-    match read_slice(&mut reader, &seq(columns), &coding(coded), 0, alloc) {
+    let seq = seq(columns);
+    let coding = coding(coded);
+    let picture = PictureParameters {
+        seq: &seq,
+        coding: &coding,
+    };
+    match read_slice(&mut reader, picture, 0, alloc) {
         Ok(slice) => Ok((slice, reader.place().saturating_sub(skipped))),
         Err(fault) => Err(behind(skipped, fault)),
     }

@@ -7,7 +7,7 @@ use macroblock_reader::{SliceFault, read_slice, read_slice_head};
 use shelf_io::{Fault, Reading, SliceSource};
 use shelf_kinds::MemShelf;
 use std::test::Fail;
-use syntax_types::{Macroblock, Slice};
+use syntax_types::{Macroblock, PictureParameters, Slice};
 
 /// The macroblocks skipped before, the quantiser code, the pattern, and the first pair of block 0.
 type Told = (u16, Option<u8>, u8, Option<(u8, i16)>);
@@ -147,7 +147,13 @@ fn a_read_that_fails_is_told(rt: HostRuntime) -> Result<(), Fail> {
     shelf.put_file("a", bytes_of(printed, 32).as_slice())?;
     let mut file = Reading::new(&mut shelf, "a");
     let mut reader = BitReader::new(&mut file);
-    let found = read_slice(&mut reader, &seq(3), &coding(Coded::PFrame), 0, alloc).err();
+    let seq = seq(3);
+    let coding = coding(Coded::PFrame);
+    let picture = PictureParameters {
+        seq: &seq,
+        coding: &coding,
+    };
+    let found = read_slice(&mut reader, picture, 0, alloc).err();
     assert_eq!(rt; found, Some(SliceFault::Outside(Fault::Failed)));
     Ok(())
 }

@@ -11,24 +11,23 @@ ghost use Rattle.macroblock_writer.specs.Private.Writing.{CanBeWritten, SliceFit
 use crate::macroblock::write_parts;
 use bit_cursor::BitWriter;
 use shelf_io::{Fault, Sink};
-use syntax_types::{Macroblock, PicCoding, SeqState, Slice, SliceInfo};
+use syntax_types::{Macroblock, PicCoding, PictureParameters, Slice, SliceInfo};
 
 /// Writes a slice that some bits spell in this picture (ISO/IEC 13818-2, 6.2.4), from behind its start code to the end of
 /// its last macroblock. A fault is the sink's own, and stops the writer.
 pub fn write_slice<K: Sink>(
     to: &mut BitWriter<'_, K>,
-    seq: &SeqState,
-    coding: &PicCoding,
+    picture: PictureParameters<'_>,
     slice: &Slice,
 ) -> Result<(), Fault>
     requires goes { is_stopped to.old ≡ false }
-    requires coding { IsCoding coding.now }
-    requires spelled { (row : ℕ) × IsSpellable (slice_grammar seq.now coding.now row) slice.now }
-    ensures writes { Writes K.written K.faults K.keeps to.old to.new result (written_slice coding.now slice.now) }
-    ensures read_back { (row : ℕ) (following : List ℕ) → IsSpellable (slice_grammar seq.now coding.now row) slice.now → ClosesSlice following →
-        (slice_grammar seq.now coding.now row).Spells slice.now (written_slice coding.now slice.now ++ following) following }
+    requires coding { IsCoding picture.coding.now }
+    requires spelled { (row : ℕ) × IsSpellable (slice_grammar picture.seq.now picture.coding.now row) slice.now }
+    ensures writes { Writes K.written K.faults K.keeps to.old to.new result (written_slice picture.entry.coding.now slice.now) }
+    ensures read_back { (row : ℕ) (following : List ℕ) → IsSpellable (slice_grammar picture.entry.seq.now picture.entry.coding.now row) slice.now → ClosesSlice following →
+        (slice_grammar picture.entry.seq.now picture.entry.coding.now row).Spells slice.now (written_slice picture.entry.coding.now slice.now ++ following) following }
 {
-    write_header_and_macroblocks(to, coding, slice)
+    write_header_and_macroblocks(to, picture.coding, slice)
 }
 
 fn write_header_and_macroblocks<K: Sink>(

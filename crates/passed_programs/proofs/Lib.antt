@@ -1,3 +1,16 @@
 pub mod CutUp
 pub mod ReadOff
 pub mod OfFile
+pub mod Fronts
+pub mod Streams
+pub mod Hand
+pub mod Told
+pub mod Together
+pub mod Within
+pub mod Carried
+pub mod PassedAudio
+pub mod TakenVideo
+pub mod AsDemuxed
+pub mod NearTimes
+pub mod AsSplit
+pub mod Bytes

@@ -16,8 +16,8 @@ use Rattle.program_reader.specs.declared.program.UnitSource.{UnitSource}
 use Rattle.program_reader.specs.KeptUnits.{kept_at}
 use Rattle.program_reader.specs.Programs.{HasFewPackets, IsProgramOfFile, StandIn, all_packets_dropped, video_bytes}
 use Rattle.program_reader.specs.Sizes.{AreProgramSizes, AreUnitSizes, stands_at}
-use Rattle.program_pass.specs.PassedVideo.{IsVideoRead}
-use Rattle.program_pass.proofs.AsDemuxed.{video_few, video_walked}
+use Rattle.passed_programs.specs.PassedVideo.{IsVideoRead}
+use Rattle.passed_programs.proofs.AsDemuxed.{video_few, video_walked}
 use Rattle.passed_programs.specs.declared.due_program.FoundMap.{FoundMap}
 use Rattle.passed_programs.specs.declared.passed_program.PassedProgram.{PassedProgram}
 use Rattle.passed_programs.specs.PassedProgram.{AreRead, IsPassed}

@@ -17,7 +17,7 @@ use Rattle.program_reader.specs.VideoWalk.{AreFew, IsVideoWalked}
 use Rattle.program_reader.specs.Dues.{AreDueUnits, frame_times, Lowers}
 use Rattle.program_reader.specs.Private.Sources.{IsVideoRead}
 use Rattle.program_reader.proofs.ProgramLemmas.{IsClockOf, clock_of, program_is, streams_dropped, video_dropped}
-use Rattle.program_pass.proofs.TakenVideo.{joined_few}
+use Rattle.passed_programs.proofs.TakenVideo.{joined_few}
 use Rattle.passed_programs.specs.declared.due_program.FoundMap.{FoundMap}
 use Rattle.passed_programs.specs.PassedProgram.{AreRead, IsPassed}
 use Rattle.passed_programs.specs.Private.PassedAudios.{IsCutUp}

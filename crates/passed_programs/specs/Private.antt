@@ -1,1 +1,4 @@
 pub mod PassedAudios
+pub mod Passes
+pub mod Faults
+pub mod TakenVideo

@@ -7,9 +7,9 @@ ghost use Rattle.passed_programs.specs.PassedProgram.{AreRead, IsPassed};
 
 use crate::passed_audios::passed_audios;
 use crate::passed_program::PassedProgram;
+use crate::video_laws::near_times;
 use elementary_streams::ReadStream;
 use list_types::{ListOf, OutOfMemory};
-use program_pass::laws::near_times;
 use program_reader::{EarliestTime, WalkedVideo, audio_packets_dropped, due_units};
 use psi_tables::ProgramMap;
 use std::alloc::Global;

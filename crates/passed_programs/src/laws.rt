@@ -14,7 +14,7 @@ ghost use Rattle.program_reader.specs.declared.video_walk.WalkedVideo.{WalkedVid
 ghost use Rattle.program_reader.specs.KeptUnits.{kept_at};
 ghost use Rattle.program_reader.specs.Programs.{HasFewPackets, IsProgramOfFile, video_bytes};
 ghost use Rattle.program_reader.specs.Sizes.{AreProgramSizes, AreUnitSizes, stands_at};
-ghost use Rattle.program_pass.specs.PassedVideo.{IsVideoRead};
+ghost use Rattle.passed_programs.specs.PassedVideo.{IsVideoRead};
 ghost use Rattle.passed_programs.specs.declared.due_program.FoundMap.{FoundMap};
 ghost use Rattle.passed_programs.specs.declared.passed_program.PassedProgram.{PassedProgram};
 ghost use Rattle.passed_programs.specs.PassedProgram.{AreRead, IsPassed};
@@ -28,7 +28,7 @@ pub fn as_read()
         demuxed.not_carried ≡ found.not_carried → AreRead demuxed found video streams }
 {
     elementary_streams::laws::within_file();
-    program_pass::laws::as_demuxed();
+    crate::video_laws::as_demuxed();
 }
 
 /// The program without its bytes is that of the file, and has the sizes that its video's units have, where they stand in the same places.

@@ -13,7 +13,7 @@ use Rattle.pes_passing.specs.declared.passing_packets.PassingPackets.{PassingPac
 use Rattle.pes_passing.specs.PassingPackets.{held_of, index_of, packets_before, pids_of, StandsAtEnd}
 
 -- the stream of a number, and its PID
-stream_at : (file : List ℕ) (streams : List Stream) (k : ℕ) (stream : AudioStream) (pid : ℕ) → slice_get (map (pes_packets_on file) streams) k ≡ Some stream
+pub stream_at : (file : List ℕ) (streams : List Stream) (k : ℕ) (stream : AudioStream) (pid : ℕ) → slice_get (map (pes_packets_on file) streams) k ≡ Some stream
     → slice_get (map (λ (s : Stream). s.pid) streams) k ≡ Some pid → stream.units ≡ packets_before file pid (piece_count file)
 stream_at file [] k stream pid there here = absurd cc
 stream_at file (s ∷ streams) zero stream pid there here =

@@ -2,3 +2,5 @@ pub mod Splitting
 pub mod Standing
 pub mod Passing
 pub mod Demuxed
+pub mod ElementSteps
+pub mod Split

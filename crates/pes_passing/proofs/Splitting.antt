@@ -10,18 +10,13 @@ use Rattle.pes_units.specs.PesPackets.{Gathered, gathered}
 use Rattle.pes_walk.specs.Walk.{begun_in, with_more}
 use Rattle.pes_walk.proofs.Walking.{gathered_on, gathered_start, longer, longer_last}
 use Rattle.ts_demux.specs.declared.demuxed.PesUnit.{PesUnit}
+use Rattle.ts_demux.proofs.Gathering.{unit_of, units_of}
 use Rattle.pes_passing.specs.declared.open_packet.OpenPacket.{OpenPacket}
 use Rattle.pes_passing.specs.PassingPackets.{AreSplit, begun_packet, size_of}
 use Rattle.pes_passing.specs.Private.OpenPacket.{Counts, ended_behind, with_payload}
 
-abbrev unit_of : Gathered → PesUnit
-unit_of packet = record { at = packet.at; bytes = packet.bytes }
-
 abbrev as_gathered : PesUnit → Gathered
 as_gathered packet = record { at = packet.at; bytes = packet.bytes }
-
-abbrev pub units_of : List CarriedPayload → List PesUnit
-units_of carried = map unit_of (gathered carried)
 
 back : (packets : List Gathered) → map as_gathered (map unit_of packets) ≡ packets
 back [] = refl

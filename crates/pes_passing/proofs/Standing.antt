@@ -13,11 +13,12 @@ use Rattle.ts_demux.specs.CarriedPackets.{AddsFound, added_to, as_carried, carri
 use Rattle.ts_demux.specs.Demux.{IsStreamFault}
 use Rattle.ts_demux.proofs.CarriedSteps.{own_added}
 use Rattle.ts_demux.proofs.GatherSteps.{sound_all, sound_more}
+use Rattle.ts_demux.proofs.Gathering.{units_of}
 use Rattle.pes_passing.specs.declared.open_packet.OpenPacket.{OpenPacket}
 use Rattle.pes_passing.specs.declared.passing_packets.PassingPackets.{PassingPackets}
 use Rattle.pes_passing.specs.PassingPackets.{AreSplit, begun_packet, open_between, open_of, packets_before, pids_of, size_of, StandsAtEnd, StandsIn}
 use Rattle.pes_passing.specs.Private.OpenPacket.{Counts, ended_behind, Holds, with_payload}
-use Rattle.pes_passing.proofs.Splitting.{counted, ended_is, sized, split_more, units_of}
+use Rattle.pes_passing.proofs.Splitting.{counted, ended_is, sized, split_more}
 
 -- a transport packet that brings nothing to the stream
 pub stands_same : (file : List ℕ) (ended : List PesUnit) (old : PassingPackets) (packets : CarriedPackets) (found : Option StreamPayload) → pids_read packets ≡ pids_of old
@@ -128,12 +129,10 @@ on_fault (Ok x) P Q p f = tt
 on_fault (Err e) P Q p f = f e p
 
 -- one that has ended is held
-pub holds_added : (start : Bool) (old after : OpenPacket) (ends : Bool) (packets : CarriedPackets) (index read : ℕ) → ends ≡ (start && is_some old.held) → Counts ends old after
-    → Holds ends (record { packets = packets; index = index; read = read; pes = after })
-holds_added start old after ends packets index read is counts = by_case start old.held refl ends is counts
+pub holds_added : (start : Bool) (old after : OpenPacket) (ends : Bool) → ends ≡ (start && is_some old.held) → Counts ends old after → Holds ends after
+holds_added start old after ends is counts = by_case start old.held refl ends is counts
   where
-    by_case : (start : Bool) (held : Option PesUnit) → old.held ≡ held → (ends : Bool) → ends ≡ (start && is_some held) → Counts ends old after
-        → Holds ends (record { packets = packets; index = index; read = read; pes = after })
+    by_case : (start : Bool) (held : Option PesUnit) → old.held ≡ held → (ends : Bool) → ends ≡ (start && is_some held) → Counts ends old after → Holds ends after
     by_case true None held_is true is counts = absurd cc
     by_case true (Some packet) held_is true is counts = ap (λ (held : Option PesUnit). is_some held) (counts.0 ∙ held_is)
     by_case false held held_is true is counts = absurd cc

@@ -1,2 +1,3 @@
 pub mod PassingPackets
+pub mod ElementPackets
 pub mod Private

@@ -1,1 +1,2 @@
 pub mod OpenPacket
+pub mod ElementWalk

@@ -126,7 +126,7 @@ impl PassingPackets {
         requires few { self.old.pes.count ≤ self.old.read }
         ensures taken { (file : List ℕ) (ended : List PesUnit) → self.old.read < piece_count file → packet.now ≡ piece_at file self.old.read → StandsIn file ended self.old →
             IfOk result (λ ends. StandsIn file (ended_behind ends ended self.new.pes.held) self.new) }
-        ensures holds { IfOk result (λ ends. Holds ends self.new) }
+        ensures holds { IfOk result (λ ends. Holds ends self.new.pes) }
         ensures refused { IfErr result (λ fault. IsMemory fault
             ⊎ ((file : List ℕ) (ended : List PesUnit) → self.old.read < piece_count file → packet.now ≡ piece_at file self.old.read → StandsIn file ended self.old →
             IsFirstStreamFault file (pids_of self.old) fault)) }

@@ -6,7 +6,6 @@ ghost use Rattle.ts_demux.specs.CarriedPackets.{AreDistinct};
 ghost use Rattle.ts_demux.specs.Pass.{IsWhole};
 ghost use Rattle.pes_passing.specs.PassingPackets.{packets_before};
 
-use arrayvec::ArrayVec;
 use list_types::{ListOf, OutOfMemory};
 use pes_passing::PassingPackets;
 use psi_tables::Stream;
@@ -15,14 +14,11 @@ use shelf_kinds::{CalmShelf, ShortShelf};
 use std::alloc::{AllocError, Global};
 use std::test::Fail;
 use stream_constants::packets::{PACKET_BYTES, SYNC_BYTE};
+use test_packets::{AUDIO_PID, VIDEO_PID, alike, two_streams};
 use ts_demux::{DemuxFault, PacketBuffer, PassFault, PesUnit};
 
 /// How many bytes a call gives at most: parts of a packet, and one.
 const GIVEN: [u32; 4] = [1, 187, 188, 189];
-
-const VIDEO_PID: u16 = 257;
-
-const AUDIO_PID: u16 = 258;
 
 /// The PES packets of a stream out of a source, each with its place, and the last one: what a caller owes and knows is shown by the clauses alone.
 fn all_packets<S: Source>(
@@ -77,17 +73,6 @@ fn push_copy(
     Ok(())
 }
 
-/// A stream of this PID.
-fn stream_of(pid: u16) -> Stream
-    ensures { result.pid ≡ pid }
-{
-    Stream {
-        kind: 0,
-        pid,
-        descriptors: ArrayVec::new(),
-    }
-}
-
 /// The PES packets of the first or the second stream of a file, out of a source that gives so many bytes a call, through a room of so many.
 fn packets_of(
     alloc: Global,
@@ -103,20 +88,8 @@ fn packets_of(
     let mut shelf = ShortShelf::new(inner, given.max(1));
     let mut source = Reading::new(&mut shelf, "a");
     let mut buffer = PacketBuffer::new(vec![in alloc; 0u8; room.max(PACKET_BYTES)]?);
-    let streams = [stream_of(VIDEO_PID), stream_of(AUDIO_PID)];
+    let streams = two_streams();
     Ok(all_packets(alloc, &mut buffer, &mut source, &streams, index))
-}
-
-/// A packet of a PID, which begins a PES packet or goes on with one; each byte of its payload is this one.
-fn packet(pid: u16, start: bool, counter: u8, byte: u8) -> [u8; PACKET_BYTES] {
-    let [high, low] = pid.to_be_bytes();
-    let flag = if start { 0x40 } else { 0 };
-    let mut bytes = [byte; PACKET_BYTES];
-    bytes[0] = SYNC_BYTE;
-    bytes[1] = flag | high;
-    bytes[2] = low;
-    bytes[3] = 0x10 | counter;
-    bytes
 }
 
 /// A video packet before the first PES packet; a PES packet of two; one of the audio; one of the video and one of the audio whose packets stand between
@@ -124,16 +97,16 @@ fn packet(pid: u16, start: bool, counter: u8, byte: u8) -> [u8; PACKET_BYTES] {
 fn mixed_file(alloc: Global, length: usize) -> Result<Vec<u8>, AllocError> {
     let mut file = Vec::new(alloc);
     for packet in [
-        packet(VIDEO_PID, false, 0, 0xA0),
-        packet(VIDEO_PID, true, 1, 0xA1),
-        packet(VIDEO_PID, false, 2, 0xA2),
-        packet(AUDIO_PID, true, 7, 0xC7),
-        packet(VIDEO_PID, true, 3, 0xA3),
-        packet(AUDIO_PID, true, 8, 0xC8),
-        packet(17, true, 0, 0xEE),
-        packet(AUDIO_PID, false, 9, 0xC9),
-        packet(VIDEO_PID, false, 4, 0xA4),
-        packet(VIDEO_PID, true, 5, 0xA5),
+        alike(VIDEO_PID, false, 0, 0xA0),
+        alike(VIDEO_PID, true, 1, 0xA1),
+        alike(VIDEO_PID, false, 2, 0xA2),
+        alike(AUDIO_PID, true, 7, 0xC7),
+        alike(VIDEO_PID, true, 3, 0xA3),
+        alike(AUDIO_PID, true, 8, 0xC8),
+        alike(17, true, 0, 0xEE),
+        alike(AUDIO_PID, false, 9, 0xC9),
+        alike(VIDEO_PID, false, 4, 0xA4),
+        alike(VIDEO_PID, true, 5, 0xA5),
     ] {
         file.extend_from_slice(&packet)?;
     }
@@ -204,8 +177,8 @@ fn a_file_that_ends_within_a_packet(rt: HostRuntime) -> Result<(), Fail> {
 #[test]
 fn the_first_packet_that_is_refused(rt: HostRuntime) -> Result<(), Fail> {
     let mut file = mixed_file(rt.alloc(), 1880)?;
-    file.extend_from_slice(&packet(AUDIO_PID, false, 12, 0xCC))?;
-    file.extend_from_slice(&packet(VIDEO_PID, false, 9, 0xA9))?;
+    file.extend_from_slice(&alike(AUDIO_PID, false, 12, 0xCC))?;
+    file.extend_from_slice(&alike(VIDEO_PID, false, 9, 0xA9))?;
     for index in 0..2 {
         let refused = packets_of(rt.alloc(), file.as_slice(), 189, 188, index)?;
         assert_eq!(rt;

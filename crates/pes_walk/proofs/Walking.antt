@@ -8,6 +8,7 @@ use Rattle.bit_lists.specs.Payload.{CarriedPayload, is_start}
 use Rattle.pes_units.specs.PesPackets.{Gathered, up_to_start, gathered}
 use Rattle.pes_walk.specs.declared.walk.PesWalk.{PesWalk}
 use Rattle.pes_walk.specs.Walk.{begun_in, with_more, closed_behind, open_behind, HasWalked}
+use Rattle.list_types.proofs.Lists.{take_behind}
 
 -- a packet whose first payload is this
 abbrev from_first : CarriedPayload → List ℕ → Gathered
@@ -83,15 +84,6 @@ longer_last (q ∷ r ∷ closed) p x = ap (λ (ps : List Gathered). q ∷ ps) (l
 
 -- ---- the first bytes
 
-pub front_more : (most : ℕ) (ys xs : List ℕ) → take most (take most ys ++ xs) ≡ take most (ys ++ xs)
-front_more most ys xs = elim (cases_lt (length ys) most) [
-  | inl less ↦ ap (λ (zs : List ℕ). take most (zs ++ xs)) (take_all most ys (omega arith))
-  | inr more ↦ (
-      let size : length (take most ys) ≡ most = omega (arith, length-take most ys) in
-      take_at (take most ys) xs most size ∙ sym (take-append-le most ys xs more)
-      )
-]
-
 -- as many of the next bytes as have room
 pub room_taken : (most : ℕ) (ys xs : List ℕ) (room n : ℕ) → length ys ≤ most → room ≡ most - length ys → n ≡ min (length xs) room → ys ++ take n xs ≡ take most (ys ++ xs)
 room_taken most ys xs room n few room_is n_is =
@@ -135,7 +127,7 @@ walked_by false carried closed (Some packet) x old new begun front is has change
       packets = gathered_on carried x is ∙ ap (λ (ps : List Gathered). longer ps x) has.packets ∙ longer_last closed packet x;
       none = λ no. absurd (let bad : Some (with_more x packet) ≡ None = no in cc);
       place = changes.place ∙ changes.turned ∙ has.place;
-      front = changes.more some few ∙ ap (λ (kept : List ℕ). take 65542 (kept ++ x.payload.bytes)) kept ∙ front_more 65542 packet.bytes x.payload.bytes;
+      front = changes.more some few ∙ ap (λ (kept : List ℕ). take 65542 (kept ++ x.payload.bytes)) kept ∙ take_behind 65542 packet.bytes x.payload.bytes;
     }
 
 pub walked : (carried : List CarriedPayload) (closed : List Gathered) (last : Option Gathered) (x : CarriedPayload) (old new : PesWalk) (begun : Option ℕ) (front : List ℕ)

@@ -85,7 +85,7 @@ by_test (w ∷ ws) passes =
     let first = and_parts (nat_lt 0 w) (nat_lt w 256) parts.0 in
     ((ltb-true 0 w first.0, ltb-true w 256 first.1), by_test ws parts.1)
 
-default_are : (intra : Bool) → AreWeights (default_weights intra)
+pub default_are : (intra : Bool) → AreWeights (default_weights intra)
 default_are true = (refl, by_test (default_weights true) refl)
 default_are false = (refl, by_test (default_weights false) refl)
 

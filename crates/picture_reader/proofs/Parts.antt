@@ -43,7 +43,7 @@ use Rattle.std.proofs.Math.Seq.{drop-cons}
 use Rattle.std.proofs.lemmas.Bool.{ne_eqb}
 use Rattle.std.proofs.lemmas.List.{length-replicate, length-drop, replicate-append-replicate}
 use Rattle.bit_lists.specs.Fields.{AreBytes, bit_list}
-use Rattle.bit_lists.proofs.ByteLemmas.{bit_list-append, length-bit_list, AreBytes-append}
+use Rattle.bit_lists.proofs.ByteLemmas.{bit_list-append, length-bit_list, AreBytes-append, AreBytes-drop}
 use Rattle.bit_lists.proofs.PrefixLemmas.{bit_list-same}
 use Rattle.syntax_types.specs.declared.picture.PicCoding.{PicCoding}
 use Rattle.syntax_types.specs.declared.picture.SeqState.{SeqState}
@@ -85,11 +85,6 @@ use Rattle.picture_reader.proofs.Refusals.{
 pub are-bytes : (xs : List ℕ) → ((i : ℕ) → get_or xs i 0 < 2 ^ 8) → AreBytes xs
 are-bytes [] fits = tt
 are-bytes (x ∷ xs) fits = (fits 0, are-bytes xs (λ i. fits (suc i)))
-
-pub are-dropped : (n : ℕ) (xs : List ℕ) → AreBytes xs → AreBytes (drop n xs)
-are-dropped zero xs are = are
-are-dropped (suc n) [] are = tt
-are-dropped (suc n) (x ∷ xs) are = are-dropped n xs are.1
 
 pub push_zero : (n : ℕ) (rest : List ℕ) → replicate n 0 ++ 0 ∷ rest ≡ replicate (suc n) 0 ++ rest
 push_zero zero rest = refl
@@ -135,7 +130,7 @@ module _ (unit : List ℕ) (are : AreBytes unit) (at end : ℕ) (z : ZerosTo uni
       count = z.count;
       place_is = z.place;
       split = z.split ∙ ap (λ (l : List ℕ). replicate z.count 0 ++ l) (drop-cons unit end 0 lt);
-      are = subst AreBytes (drop-cons unit end 0 lt) (are-dropped end unit are);
+      are = subst AreBytes (drop-cons unit end 0 lt) (AreBytes-drop end unit are);
       ends = omega (arith, lt, length-drop (suc end) unit);
     };
     some = some;
@@ -154,7 +149,7 @@ module _ (unit : List ℕ) (are : AreBytes unit) (at end : ℕ) (z : ZerosTo uni
           count = n;
           place_is = omega (arith, e, is);
           split = split ∙ ap (λ (l : List ℕ). replicate (suc (suc n)) 0 ++ l) at_end ∙ sym (push_zero (suc n) (1 ∷ drop (end + 1) unit)) ∙ sym (push_zero n (0 ∷ 1 ∷ drop (end + 1) unit));
-          are = (omega arith, (omega arith, (omega arith, are-dropped (end + 1) unit are)));
+          are = (omega arith, (omega arith, (omega arith, AreBytes-drop (end + 1) unit are)));
           ends = omega (arith, is, lt, length-drop (end + 1) unit);
         }
 

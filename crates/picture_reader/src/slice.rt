@@ -22,7 +22,7 @@ use picture_grammar::grid::columns;
 use shelf_io::{Fault, SliceSource, Source};
 use std::alloc::Global;
 use std::mem;
-use syntax_types::{Macroblock, PicCoding, SeqState, Slice};
+use syntax_types::{Macroblock, PictureParameters, Slice};
 
 /// A slice that was read.
 #[derive(Drop)]
@@ -47,24 +47,23 @@ pub struct MacroblocksWalked {
 /// Reads the slice at the front of these bytes, behind its start code, through a macroblock that is lent.
 pub fn walk_slice(
     bytes: &[u8],
-    seq: &SeqState,
-    coding: &PicCoding,
+    picture: PictureParameters<'_>,
     row: u8,
     keep: Keep,
     lent: &mut Macroblock,
     alloc: Global,
 ) -> Result<SliceWalked, SliceFault>
-    requires coding { IsCoding coding.now }
+    requires coding { IsCoding picture.coding.now }
     requires length { length bytes.now ≤ 2 ^ 60 }
-    ensures gives { MatchResult result (λ walked. SliceRead seq.now coding.now row keep walked (bit_list bytes.now))
-        (λ fault. RefusesTold (slice seq.now coding.now row) (refusal_told fault) (length (bit_list bytes.now)) (bit_list bytes.now)) }
+    ensures gives { MatchResult result (λ walked. SliceRead picture.entry.seq.now picture.entry.coding.now row keep walked (bit_list bytes.now))
+        (λ fault. RefusesTold (slice picture.entry.seq.now picture.entry.coding.now row) (refusal_told fault) (length (bit_list bytes.now)) (bit_list bytes.now)) }
     ensures inside { IfErr result IsInside }
     ensures few { IfOk result (λ walked. walked.span.end ≤ 4096) }
 {
     let mut source = SliceSource::new(bytes);
     let mut reader = BitReader::new(&mut source);
     let head = read_slice_head(&mut reader, alloc)?;
-    let walked = walk_macroblocks(&mut reader, seq, coding, keep, lent, alloc)?;
+    let walked = walk_macroblocks(&mut reader, picture, keep, lent, alloc)?;
     let bits = reader.place();
     Ok(SliceWalked {
         slice: Slice {
@@ -81,27 +80,26 @@ pub fn walk_slice(
 /// Reads macroblocks up to the close of their slice, each into one that is lent.
 fn walk_macroblocks<S: Source>(
     from: &mut BitReader<'_, S>,
-    seq: &SeqState,
-    coding: &PicCoding,
+    picture: PictureParameters<'_>,
     keep: Keep,
     lent: &mut Macroblock,
     alloc: Global,
 ) -> Result<MacroblocksWalked, SliceFault>
-    requires { IsCoding coding.now }
+    requires { IsCoding picture.coding.now }
     ensures gives { (end : ℕ) (bits : List ℕ) → Rests from.old end bits →
-        MatchResult result (λ walked. AllRead seq.now coding.now keep walked end bits from.new)
-        (λ fault. RefusesTold (many (next_macroblock seq.now coding.now)) (refusal_told fault) end bits) }
+        MatchResult result (λ walked. AllRead picture.entry.seq.now picture.entry.coding.now keep walked end bits from.new)
+        (λ fault. RefusesTold (many (next_macroblock picture.entry.seq.now picture.entry.coding.now)) (refusal_told fault) end bits) }
     ensures few { IfOk result (λ walked. walked.span.end ≤ 4096) }
     ensures failed { IsErrOf result (SliceFault.Outside Fault.Failed) → Rose (faults_of from.old) (faults_of from.new) }
     ensures missing { IsErrOf result (SliceFault.Outside Fault.Missing) → Rose (absences_of from.old) (absences_of from.new) }
     ensures keeps { KeepsSource from.old from.new }
 {
-    let _columns = columns(seq);
-    let mut cursor = SliceCursor::new(seq);
+    let _columns = columns(picture.seq);
+    let mut cursor = SliceCursor::new(picture.seq);
     let mut kept = ListOf::new(alloc);
     let mut span = Span::new();
     'macroblocks: loop {
-        let is_more = cursor.next(from, coding, lent)?;
+        let is_more = cursor.next(from, picture.coding, lent)?;
         if !is_more {
             return Ok(MacroblocksWalked {
                 macroblocks: kept,

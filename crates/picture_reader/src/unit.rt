@@ -11,7 +11,7 @@ use crate::keep::Keep;
 use crate::slice::walk_slice;
 use list_types::{ListOf, OutOfMemory};
 use std::alloc::Global;
-use syntax_types::{Macroblock, SeqState, Slice};
+use syntax_types::{Macroblock, PictureParameters, SeqState, Slice};
 use video_headers::Headers;
 
 /// A unit that was read.
@@ -56,15 +56,11 @@ pub fn walk_unit(
             UnitPart::Slice { row, at } => {
                 let bytes = bytes_from(unit, at);
                 let headers = cursor.headers;
-                let walked = match walk_slice(
-                    bytes,
-                    &headers.seq,
-                    &headers.coding,
-                    row,
-                    keep,
-                    &mut lent,
-                    alloc,
-                ) {
+                let picture = PictureParameters {
+                    seq: &headers.seq,
+                    coding: &headers.coding,
+                };
+                let walked = match walk_slice(bytes, picture, row, keep, &mut lent, alloc) {
                     Ok(walked) => walked,
                     Err(fault) => return Err(cursor.fault_of(unit, row, at, fault)),
                 };

@@ -12,7 +12,7 @@ ghost use Rattle.picture_writer.specs.Private.Slices.{CanBeWritten};
 use crate::slices::{write_end, write_slices};
 use bit_cursor::BitWriter;
 use shelf_io::{Fault, Sink, put_all};
-use syntax_types::Picture;
+use syntax_types::{Picture, PictureParameters};
 
 /// Writes a lawful picture (ISO/IEC 13818-2, 6.2): its head, each slice behind its start code with the least zero bits to
 /// a whole byte behind it, and the sequence end code where it stands. After a fault, which is the sink's own, a front of
@@ -44,12 +44,11 @@ fn write_behind_head<K: Sink>(to: &mut K, picture: &Picture) -> Result<(), Fault
     ensures keeps { K.keeps to.old to.new }
 {
     let mut writer = BitWriter::new(to);
-    write_slices(
-        &mut writer,
-        &picture.seq,
-        &picture.coding,
-        picture.slices.as_slice(),
-    )?;
+    let parameters = PictureParameters {
+        seq: &picture.seq,
+        coding: &picture.coding,
+    };
+    write_slices(&mut writer, parameters, picture.slices.as_slice())?;
     write_end(&mut writer, picture.sequence_end)?;
     writer.finish()
 }

@@ -11,43 +11,41 @@ use bit_cursor::BitWriter;
 use macroblock_writer::write_slice;
 use shelf_io::{Fault, Sink};
 use stream_constants::start_codes::{FIRST_SLICE, SEQUENCE_END};
-use syntax_types::{PicCoding, SeqState, Slice};
+use syntax_types::{PictureParameters, Slice};
 
 /// Writes slices, each behind its start code and up to a whole byte.
 pub fn write_slices<K: Sink>(
     to: &mut BitWriter<'_, K>,
-    seq: &SeqState,
-    coding: &PicCoding,
+    picture: PictureParameters<'_>,
     slices: &[Slice],
 ) -> Result<(), Fault>
     requires goes { is_stopped to.old ≡ false }
     requires whole { odd_bits to.old ≡ 0 }
-    requires coding { IsCoding coding.now }
-    requires spelled { AllByRecursion (CanBeWritten seq.now coding.now) slices.now }
-    ensures writes { Writes K.written K.faults K.keeps to.old to.new result (flat_map (written_whole_slice coding.now) slices.now) }
+    requires coding { IsCoding picture.coding.now }
+    requires spelled { AllByRecursion (CanBeWritten picture.seq.now picture.coding.now) slices.now }
+    ensures writes { Writes K.written K.faults K.keeps to.old to.new result (flat_map (written_whole_slice picture.entry.coding.now) slices.now) }
     ensures whole { OnOk result (odd_bits to.new ≡ 0) }
 {
     for slice in slices {
-        write_whole_slice(to, seq, coding, slice)?;
+        write_whole_slice(to, picture, slice)?;
     }
     Ok(())
 }
 
 fn write_whole_slice<K: Sink>(
     to: &mut BitWriter<'_, K>,
-    seq: &SeqState,
-    coding: &PicCoding,
+    picture: PictureParameters<'_>,
     slice: &Slice,
 ) -> Result<(), Fault>
     requires goes { is_stopped to.old ≡ false }
     requires whole { odd_bits to.old ≡ 0 }
-    requires coding { IsCoding coding.now }
-    requires spelled { CanBeWritten seq.now coding.now slice.now }
-    ensures writes { Writes K.written K.faults K.keeps to.old to.new result (written_whole_slice coding.now slice.now) }
+    requires coding { IsCoding picture.coding.now }
+    requires spelled { CanBeWritten picture.seq.now picture.coding.now slice.now }
+    ensures writes { Writes K.written K.faults K.keeps to.old to.new result (written_whole_slice picture.entry.coding.now slice.now) }
     ensures whole { OnOk result (odd_bits to.new ≡ 0) }
 {
     write_start_code(to, slice.row + FIRST_SLICE)?;
-    write_slice(to, seq, coding, slice)?;
+    write_slice(to, picture, slice)?;
     to.align_zero()
 }
 

@@ -24,7 +24,8 @@ use Rattle.command_words.specs.declared.status.JobRefusal.{JobRefusal}
 use Rattle.command_words.specs.declared.status.JobRefusal.TheVariants.{TableSyntax, TableLimit}
 use Rattle.command_words.specs.Ended.{EndsBy, Performs, answer_of}
 use Rattle.command_words.specs.Held.{HoldsText}
-use Rattle.command_words.specs.Outside.{OnFiles, ShelfFacts}
+use Rattle.shelf_io.specs.Facts.{ShelfFacts}
+use Rattle.command_words.specs.Outside.{OnFiles}
 use Rattle.command_words.specs.Report.{miss_report, refusal_report}
 use Rattle.command_words.specs.Task.{AsksOnly}
 use Rattle.command_words.proofs.Counted.{asks_one}

@@ -6,7 +6,7 @@ use Rattle.bound_certificate.specs.Cert.{IsCert}
 use Rattle.bound_certificate.specs.Reading.{IsWritable}
 use Rattle.certificate_checker.specs.Checked.{IsFaultless}
 use Rattle.certificate_checker.specs.Faults.{IsHeadRight}
-use Rattle.branch_plan.specs.Bound.{HaveFewWindows, IsAtLeastEachPair, IsAtLeastEachTried}
+use Rattle.branch_plan.specs.Bound.{IsAtLeastEachPair, IsAtLeastEachTried}
 use Rattle.branch_plan.specs.Changes.{EndsBestAlone, GainsByRounds}
 use Rattle.branch_plan.specs.Plan.{BoundsAll, IsNoWorseThanLevels, ShowsItsBound, SmallestIsScheduled}
 use Rattle.branch_plan.specs.Tree.{AreEnough, BranchesOnMany, IsSpent}
@@ -28,7 +28,6 @@ pub record IsPlan (table : Table) (cert : Cert) : Type 0 where
   pub bound : BoundsAll table cert.bound
   -- the tree keeps the budget of nodes, and branches on nothing that has one version alone
   pub few_nodes : length cert.nodes ≤ table.nodes
-  pub few_windows : HaveFewWindows table.nodes cert.nodes
   pub branches : All (BranchesOnMany table) cert.nodes
   -- where the bound isn't the distortion, a leaf has this bound, and to branch it once more would take the tree past its nodes
   pub spent : cert.bound ≢ cert.distortion → IsSpent table table.nodes cert

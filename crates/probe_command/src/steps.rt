@@ -1,36 +1,36 @@
 //! From a file to the text of the table of one of its programs, step by step.
 
-ghost use Rattle.std.specs.Prelude.{◌≡◌, ◌∷◌, ℕ, List, [], IfOk, IfSome};
-ghost use Rattle.job_programs.specs.Probe.{IsProbed};
+ghost use Rattle.std.specs.Prelude.{◌≡◌, ◌∷◌, ℕ, [], IfOk, IfSome};
+ghost use Rattle.job_programs.specs.Passed.{IsPassedProbed, IsSizedOff};
+ghost use Rattle.job_programs.specs.Read.{IsReadProbed};
 ghost use Rattle.job_report.specs.declared.limits.TheConstants.{COARSER_DEFAULT, PROBE_SLOT, START_DEFAULT};
-ghost use Rattle.program_reader.specs.Sizes.{AreProgramSizes};
+ghost use Rattle.program_reader.specs.declared.program.Program.{Program as AnyProgram};
 ghost use Rattle.version_table.specs.Text.{IsTextTable};
 ghost use Rattle.command_words.specs.Ended.{PerformsOn};
 ghost use Rattle.probe_command.specs.Private.Probed.{IsProbedText};
-ghost use Rattle.probe_command.specs.ProbeCommand.{HoldsProbed, IsProbedTable, probe_task_of};
+ghost use Rattle.probe_command.specs.ProbeCommand.{IsProbedTable, probe_task_of};
 
 use crate::report::probe_report;
 use command_words::{
     Ended, ProbeWords, Status, end_missing, end_refused_source, end_unread, end_unwritten, end_with,
 };
-use job_programs::{ProgramsFault, read_one};
+use job_programs::{ProgramsFault, pass_one};
 use job_report::limits::{
     DRIFT_DEFAULT, EVALUATIONS_DEFAULT, NODES_DEFAULT, PROBE_SLOT, START_DEFAULT, WEIGHT_DEFAULT,
 };
 use list_types::{ListOf, OutOfMemory};
-use program_reader::SizedProgram;
+use passed_programs::SizedPassed;
 use program_table::laws::row_is_valid;
-use program_table::row_of_sized_program;
+use program_table::row_of_passed_program;
 use shelf_io::{Fault, Shelf, write_file};
 use std::alloc::Global;
-use version_source::laws::{programs_can_be_sent, see_bytes};
 use version_table::{ProgramRow, Table, write_table};
 
 /// Does the work of `probe FILE PROGRAM TABLE`; none for want of memory. TABLE is started once its text and the report stand.
 pub fn probe_file<K: Shelf>(alloc: Global, words: &ProbeWords<'_>, shelf: &mut K) -> Option<Ended>
     ensures { PerformsOn K.files K.counts K.asked K.since_fault shelf.old shelf.new (probe_task_of words.now) result }
 {
-    match read_one(
+    match pass_one(
         alloc,
         shelf,
         words.file,
@@ -51,11 +51,10 @@ pub fn probe_file<K: Shelf>(alloc: Global, words: &ProbeWords<'_>, shelf: &mut K
 fn write_probed<K: Shelf>(
     alloc: Global,
     words: &ProbeWords<'_>,
-    read: &SizedProgram,
+    read: &SizedPassed,
     shelf: &mut K,
 ) -> Option<Ended>
-    requires probed { HoldsProbed (K.files shelf.now) words.now.file.now words.now.program read.now.program }
-    requires sizes { AreProgramSizes read.now.program COARSER_DEFAULT read.now.sizes }
+    requires { IsPassedProbed (K.files shelf.now) words.now.file.now PROBE_SLOT START_DEFAULT words.now.program [] read.now }
     ensures { PerformsOn K.files K.counts K.asked K.since_fault shelf.old shelf.new (probe_task_of words.now) result }
 {
     let probed = prepare(alloc, read)?;
@@ -77,10 +76,9 @@ struct Probed {
 }
 
 /// Makes the table's text and the report of a program; none for want of memory.
-fn prepare(alloc: Global, read: &SizedProgram) -> Option<Probed>
-    requires probed { (number : ℕ) × (content : List ℕ) × IsProbed PROBE_SLOT START_DEFAULT number [] content read.now.program }
-    requires sizes { AreProgramSizes read.now.program COARSER_DEFAULT read.now.sizes }
-    ensures { IfSome result (IsProbedText read.now.program) }
+fn prepare(alloc: Global, read: &SizedPassed) -> Option<Probed>
+    requires { (number : ℕ) × (program : AnyProgram) × IsReadProbed PROBE_SLOT START_DEFAULT number [] program × IsSizedOff program COARSER_DEFAULT read.now }
+    ensures { (program : AnyProgram) → IsSizedOff program COARSER_DEFAULT read.now → IfSome result (IsProbedText program) }
 {
     let Ok(table) = table_of_probed(alloc, read) else {
         return None;
@@ -96,16 +94,13 @@ fn prepare(alloc: Global, read: &SizedProgram) -> Option<Probed>
 }
 
 /// The table of a program as it is probed, of the sizes that were told when it was read. Fails only for want of memory.
-fn table_of_probed(alloc: Global, read: &SizedProgram) -> Result<Table, OutOfMemory>
-    requires probed { (number : ℕ) × (content : List ℕ) × IsProbed PROBE_SLOT START_DEFAULT number [] content read.now.program }
-    requires sizes { AreProgramSizes read.now.program COARSER_DEFAULT read.now.sizes }
-    ensures table { IfOk result (IsProbedTable read.now.program) }
+fn table_of_probed(alloc: Global, read: &SizedPassed) -> Result<Table, OutOfMemory>
+    requires { (number : ℕ) × (program : AnyProgram) × IsReadProbed PROBE_SLOT START_DEFAULT number [] program × IsSizedOff program COARSER_DEFAULT read.now }
+    ensures table { (program : AnyProgram) → IsSizedOff program COARSER_DEFAULT read.now → IfOk result (IsProbedTable program) }
     ensures text { IfOk result IsTextTable }
 {
-    programs_can_be_sent();
     row_is_valid();
-    see_bytes(read.program.video.as_slice());
-    let row = row_of_sized_program(
+    let row = row_of_passed_program(
         alloc,
         &read.program,
         read.sizes.as_slice(),

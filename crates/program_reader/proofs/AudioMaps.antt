@@ -25,7 +25,7 @@ same_at f g (x ∷ xs) (y ∷ ys) (suc k) d e same lt = (let rest : map f xs ≡
 -- ---- the audio streams of the map, one more
 
 -- a stream of the map
-abbrev by_type : AudioStream → Stream
+abbrev pub by_type : AudioStream → Stream
 by_type audio = map_stream (audio_type audio) audio.pid
 
 pub typed_more : (before : List Stream) (audios : List AudioStream) (read : List ReadStream) (at : ℕ) (audio : AudioStream) (one : ReadStream) (streams news : List Stream) → at < length audios →

@@ -5,6 +5,7 @@ pub mod DueLemmas
 pub mod FrameLemmas
 pub mod IntervalExamples
 pub mod KeepLemmas
+pub mod Missing
 pub mod OnePicture
 pub mod OneProgram
 pub mod OneUnits
@@ -24,6 +25,10 @@ pub mod TimesWalked
 pub mod UnitLemmas
 pub mod WalkEnds
 pub mod WalkLemmas
+pub mod Maps
+pub mod ReadPrograms
+pub mod TakenMaps
+pub mod TakenOut
 mod CarryExamples
 mod Examples
 mod FormExamples

@@ -17,16 +17,9 @@ use Rattle.program_reader.specs.Units.{unit_bytes}
 use Rattle.program_reader.proofs.PlaceLemmas.{found_from}
 use Rattle.elementary_streams.proofs.TakenLemmas.{placed_at}
 use Rattle.program_reader.proofs.TimesWalked.{none_behind}
+use Rattle.es_units.proofs.Fronts.{find_range_same}
 
 -- ---- what is found among places
-
--- the same is found where the same places pass
-find_same : (p q : ℕ → Bool) (n from : ℕ) → ((k : ℕ) → from ≤ k → k < from + n → p k ≡ q k) → find p (range_with_len from n) ≡ find q (range_with_len from n)
-find_same p q zero from same = refl
-find_same p q (suc n) from same =
-    let here : p from ≡ q from = same from (omega arith) (omega arith) in
-    let rest : find p (range_with_len (from + 1) n) ≡ find q (range_with_len (from + 1) n) = find_same p q n (from + 1) (λ k b u. same k (omega arith) (omega arith)) in
-    rw (here, rest) refl
 
 -- none before the first one is found
 not_found : (p : ℕ → Bool) (at n from : ℕ) → at < from → option_map_or (λ found. found == at) (find p (range_with_len from n)) false ≡ false
@@ -56,7 +49,7 @@ first_same p q at (suc n) from same = elim (cases_lt at from) [
 module _ (es more : List ℕ) where
   picture_same : (from end : ℕ) → end + 3 ≤ length es → first_picture (es ++ more) from end ≡ first_picture es from end
   picture_same from end within =
-      find_same (begins_picture (es ++ more)) (begins_picture es) (end - from) from (λ k b u. begins_same es more k (omega (arith, b, u, within)))
+      find_range_same (begins_picture (es ++ more)) (begins_picture es) (end - from) from (λ k b u. begins_same es more k (omega (arith, b, u, within)))
 
   first_in_same : (at : ℕ) (packet : PlacedPacket) → at + 3 < length es → is_first_picture_in (es ++ more) at packet ≡ is_first_picture_in es at packet
   first_in_same at packet within =

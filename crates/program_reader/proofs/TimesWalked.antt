@@ -10,7 +10,7 @@ use Rattle.list_types.proofs.Search.{find_range}
 use Rattle.audio_frames.proofs.Places.{found_least, none_passes}
 use Rattle.es_units.specs.PictureFinder.{picture_places}
 use Rattle.es_units.specs.Pictures.{begins_picture, first_picture}
-use Rattle.es_units.proofs.Places.{none_in_range}
+use Rattle.list_types.proofs.Search.{find_none}
 use Rattle.elementary_streams.specs.declared.pes_packets.PlacedPacket.{PlacedPacket}
 use Rattle.program_reader.specs.PictureTimes.{is_first_picture_in, no_times, times_at, times_of_unit}
 use Rattle.program_reader.specs.TimesWalk.{Join}
@@ -117,7 +117,7 @@ first_here es begin end at before behind is all le lt =
     (λ k b u. between (begins_picture es) (length es - 0) 0 begin at before behind is all k (omega arith) b u)
 
 first_none : (es : List ℕ) (begin end : ℕ) → begin ≤ end → ((k : ℕ) → begin ≤ k → k < end → begins_picture es k ≡ false) → first_picture es begin end ≡ None
-first_none es begin end le none = none_in_range (begins_picture es) (end - begin) begin (λ k b u. none k b (omega arith))
+first_none es begin end le none = find_none (begins_picture es) (end - begin) begin (λ k b u. none k b (omega arith))
 
 -- ---- the PES packet of a picture
 

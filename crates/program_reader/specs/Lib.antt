@@ -11,4 +11,5 @@ pub mod Carry
 pub mod Sizes
 pub mod KeptUnits
 pub mod VideoWalk
+pub mod ReadProgram
 pub mod Private

@@ -12,5 +12,7 @@ pub mod BothForms
 pub mod SomeAnswer
 pub mod Early
 pub mod StreamSizes
-pub mod Rooms
 pub mod PassingSteps
+pub mod FrontElements
+pub mod IdSteps
+pub mod ElementSteps

@@ -41,12 +41,12 @@ said_by false false bytes more is =
 said_by_front : (element : Element) (more : List ℕ) → IsWholeElement element → said_length element.id (element_bytes element ++ more) ≡ length (element_bytes element)
 said_by_front element more whole = said_by (element.id == 0xB9) (element.id == 0xBA) (element_bytes element) more whole.all_bytes
 
-record Same (one other : Element) (more rest : List ℕ) : Type 0 where
-  elements : one ≡ other
-  rests : more ≡ rest
+pub record Same (one other : Element) (more rest : List ℕ) : Type 0 where
+  pub elements : one ≡ other
+  pub rests : more ≡ rest
 
 -- two whole elements that begin alike are one
-whole_same : (one other : Element) (more rest : List ℕ) → IsWholeElement one → IsWholeElement other → element_spelling one ++ more ≡ element_spelling other ++ rest → Same one other more rest
+pub whole_same : (one other : Element) (more rest : List ℕ) → IsWholeElement one → IsWholeElement other → element_spelling one ++ more ≡ element_spelling other ++ rest → Same one other more rest
 whole_same one other more rest whole whole_other same =
     let parts = prefix_once one.zeros other.zeros (one.id ∷ (one.body ++ more)) (other.id ∷ (other.body ++ rest)) (sym (behind_prefix one more) ∙ same ∙ behind_prefix other rest) in
     let ids : one.id ≡ other.id = cc in
@@ -76,10 +76,10 @@ cut_not_whole cut whole more is_cut is_whole same =
 
 -- ---- where no sound element stands first
 
-abbrev Stops : List ℕ → Type 0
+abbrev pub Stops : List ℕ → Type 0
 Stops rest = (element : Element) (more : List ℕ) → IsSoundElement element → rest ≡ element_spelling element ++ more → ⊥
 
-end_stops : (rest : List ℕ) (cut : ℕ) → IsEnd rest cut → Stops rest
+pub end_stops : (rest : List ℕ) (cut : ℕ) → IsEnd rest cut → Stops rest
 end_stops rest cut (zero_bytes zeros is none) element more sound begins =
     prefix_no_zeros element.zeros zeros (element.id ∷ (element.body ++ more)) (sym (behind_prefix element more) ∙ sym begins ∙ is)
 end_stops rest cut (prefix_alone zeros is one) element more sound begins =

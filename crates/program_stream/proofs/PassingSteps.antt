@@ -1,5 +1,5 @@
 -- A pass over the elements of a source.
-use Rattle.std.proofs.Common.{◌≡◌, ℕ, ◌+◌, ◌<◌, ◌≤◌, ◌^◌, List, [], ◌∷◌, ◌++◌, Option, length, replicate, take, drop, refl, sym, ap, ◌∙◌, subst, arith, append_assoc, append-nil, length-append}
+use Rattle.std.proofs.Common.{◌≡◌, ℕ, ◌+◌, ◌-◌, ◌<◌, ◌≤◌, ◌^◌, List, [], ◌∷◌, ◌++◌, Option, length, replicate, take, drop, refl, sym, ap, ◌∙◌, subst, arith, append_assoc, append-nil, length-append}
 use Rattle.std.proofs.lemmas.List.{take_at, drop_at, length-drop, length-replicate}
 use Rattle.shelf_io.specs.Source.{source_bytes_most}
 use Rattle.ts_demux.specs.PacketBuffer.{Passes, IsAtEnd}
@@ -13,7 +13,7 @@ use Rattle.program_stream.specs.declared.split_fault.SplitFault.{SplitFault}
 use Rattle.program_stream.specs.declared.split_fault.SplitFault.TheVariants.{ShortFile}
 use Rattle.program_stream.specs.Elements.{Element, element_bytes, element_spelling, all_spelled, IsEnd, IsRefusedAt}
 use Rattle.program_stream.specs.Split.{HasElements}
-use Rattle.program_stream.specs.PassingElements.{AreRefused, Goes, HasPassed, IsShortFile, KeepsTwo, OnRefused, rest_of}
+use Rattle.program_stream.specs.PassingElements.{AreRefused, Goes, HasPassed, IsShortFile, KeepsTwo, OnRefused, rest_of, taken_of}
 use Rattle.program_stream.specs.Private.Fronts.{BeginsWith}
 use Rattle.program_stream.specs.Private.Waiting.{waiting_of}
 use Rattle.program_stream.proofs.Early.{early}
@@ -135,19 +135,23 @@ pub few_more : (left after : Option (List ℕ)) (most most_after place count : �
     → place + count + length held + most < 2 ^ 64 → place + count + length held_after + most_after < 2 ^ 64
 few_more left after most most_after place count held held_after passes few = omega (arith, few, passes_size left after most most_after held [] held_after passes)
 
+rest_size : (passing : PassingElements) → length (rest_of passing) ≡ passing.zeros + (length passing.buffer - passing.len)
+rest_size passing = omega (
+  arith,
+  length-append (replicate passing.zeros 0) (drop passing.len passing.buffer),
+  length-replicate {A = ℕ} passing.zeros 0,
+  length-drop passing.len passing.buffer,
+)
+
+-- what was taken from the source isn't left there
+pub taken_left : (left after : Option (List ℕ)) (most most_after : ℕ) (elements : List Element) (passing : PassingElements) → HasPassed left after most most_after elements passing
+    → taken_of passing + most_after ≡ most
+taken_left left after most most_after elements passing was =
+    omega (arith, was.place, was.held, passes_size left after most most_after [] (all_spelled elements) (rest_of passing) was.passes, rest_size passing)
+
 pub within : (left after : Option (List ℕ)) (most most_after : ℕ) (elements : List Element) (passing : PassingElements) → HasPassed left after most most_after elements passing
     → passing.place + passing.zeros + length passing.buffer + most_after ≤ 2 ^ 60
-within left after most most_after elements passing was =
-    omega (
-      arith,
-      was.most_few,
-      was.place,
-      was.held,
-      passes_size left after most most_after [] (all_spelled elements) (rest_of passing) was.passes,
-      length-append (replicate passing.zeros 0) (drop passing.len passing.buffer),
-      length-replicate {A = ℕ} passing.zeros 0,
-      length-drop passing.len passing.buffer,
-    )
+within left after most most_after elements passing was = omega (arith, was.most_few, taken_left left after most most_after elements passing was)
 
 -- ---- a step
 
@@ -189,17 +193,20 @@ passed left after most most_after elements old new len none begins place rest wa
 
 -- the source has ended
 pub ended : (left after : Option (List ℕ)) (most most_after : ℕ) (elements : List Element) (passing : PassingElements) (cut : ℕ) → passing.len ≡ 0 → IsEnd (waiting_of passing) cut → IsAtEnd after
-    → HasPassed left after most most_after elements passing → IsWhole left after most most_after [] (λ file. HasElements file elements cut)
+    → HasPassed left after most most_after elements passing → IsWhole left after most most_after [] (λ file. HasElements file elements cut × (length file ≡ taken_of passing))
 ended left after most most_after elements passing cut none end at_end was =
     let seen = all_spelled elements ++ rest_of passing in
     record {
       seen = seen;
       passes = passes_all left after most most_after (all_spelled elements) (rest_of passing) was.passes;
       end = at_end;
-      whole = subst (λ (file : List ℕ). HasElements file elements cut) (sym (append-nil seen)) (record {
-        long = omega (arith, was.long, length-append (all_spelled elements) (rest_of passing));
-        are = record { rest = rest_of passing; bytes_are = refl; sound = was.sound; ending = subst (λ (xs : List ℕ). IsEnd xs cut) (sym (waiting_rest passing none)) end };
-      });
+      whole = subst (λ (file : List ℕ). HasElements file elements cut × (length file ≡ taken_of passing)) (sym (append-nil seen)) (
+        record {
+          long = omega (arith, was.long, length-append (all_spelled elements) (rest_of passing));
+          are = record { rest = rest_of passing; bytes_are = refl; sound = was.sound; ending = subst (λ (xs : List ℕ). IsEnd xs cut) (sym (waiting_rest passing none)) end };
+        },
+        omega (arith, length-append (all_spelled elements) (rest_of passing), was.place, was.held, rest_size passing),
+      );
     }
 
 -- what follows is refused

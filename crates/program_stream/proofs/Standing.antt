@@ -1,23 +1,19 @@
 -- A walk over the elements of a file, one element further.
 use Rattle.std.proofs.Common.{◌≡◌, ℕ, ◌+◌, ◌-◌, ◌≤◌, inl, inr, List, [], ◌∷◌, ◌++◌, length, replicate, take, drop, length-append, append_assoc, Result, refl, sym, ap, ◌∙◌, subst, arith}
-use Rattle.std.proofs.lemmas.List.{take_at, take_rest, drop_at, drop-drop, length-replicate, length-drop}
+use Rattle.std.proofs.lemmas.List.{take_rest, drop_at, drop-drop, length-replicate, length-drop}
 use Rattle.std.specs.List.{AllByRecursion}
 use Rattle.ts_demux.specs.declared.demuxed.Demuxed.{Demuxed}
 use Rattle.program_stream.specs.declared.front.Front.{Front}
 use Rattle.program_stream.specs.declared.split_fault.SplitFault.{SplitFault}
-use Rattle.program_stream.specs.declared.stream_walk.StreamWalk.{StreamWalk}
 use Rattle.program_stream.specs.Elements.{Element, element_bytes, element_spelling, all_spelled, IsSoundElement, IsEnd, AreElements, IsRefusedAt, IsFirstRefusal}
 use Rattle.program_stream.specs.Split.{HasElements, IsSplit, IsSplitRefused, no_video, audios}
 use Rattle.program_stream.specs.Private.Fronts.{BeginsWith, Reads}
-use Rattle.program_stream.specs.Private.Walks.{HasWalked, IsOfElements, IsStreamsFault}
-use Rattle.program_stream.specs.Private.Steps.{AreBefore, StandsAt, StandsBehind}
+use Rattle.program_stream.specs.Private.Walks.{IsOfElements, IsStreamsFault}
+use Rattle.program_stream.specs.Private.Steps.{AreBefore}
 use Rattle.program_stream.proofs.Packets.{all_spelled-more}
 
 pub before_first : (file : List ℕ) → AreBefore file [] 0
 before_first file = record { sound = tt; place = refl; front = refl }
-
-pub stands_first : (file ids : List ℕ) (walk : StreamWalk) → HasWalked ids [] walk → StandsAt file ids 0 walk
-stands_first file ids walk walked = record { elements = []; before = before_first file; walked = walked }
 
 pub refused_here : (file : List ℕ) (elements : List Element) (at : ℕ) (fault : SplitFault) → AreBefore file elements at → IsRefusedAt at (drop at file) fault → IsFirstRefusal file fault
 refused_here file elements at fault before refused = record {
@@ -31,22 +27,10 @@ refused_here file elements at fault before refused = record {
 pub all_here : (file : List ℕ) (elements : List Element) (at cut : ℕ) → AreBefore file elements at → IsEnd (drop at file) cut → AreElements file elements cut
 all_here file elements at cut before end = record { rest = drop at file; bytes_are = before.front; sound = before.sound; ending = end }
 
-pub ends_here : (file ids : List ℕ) (at cut : ℕ) (walk : StreamWalk) → StandsAt file ids at walk → IsEnd (drop at file) cut → StandsBehind file ids cut walk
-ends_here file ids at cut walk stands end = record { elements = stands.elements; are = all_here file stands.elements at cut stands.before end; walked = stands.walked }
-
 -- ---- the element that stands first
 
 pub spelled_length : (element : Element) → length (element_spelling element) ≡ element.zeros + length (element_bytes element)
 spelled_length element = length-append (replicate element.zeros 0) (element_bytes element) ∙ ap (λ (n : ℕ). n + length (element_bytes element)) (length-replicate element.zeros 0)
-
--- its bytes in the file
-pub found_bytes : (file : List ℕ) (at zeros len : ℕ) (begins : BeginsWith (drop at file) zeros len) → take len (drop (at + zeros) file) ≡ element_bytes begins.element
-found_bytes file at zeros len begins =
-    let bytes = element_bytes begins.element in
-    let all : drop at file ≡ replicate begins.element.zeros 0 ++ (bytes ++ begins.more) = begins.rest_is ∙ append_assoc (replicate begins.element.zeros 0) bytes begins.more in
-    let behind : drop (at + zeros) file ≡ bytes ++ begins.more =
-    sym (drop-drop zeros at file) ∙ ap (drop zeros) all ∙ drop_at (replicate begins.element.zeros 0) (bytes ++ begins.more) zeros (length-replicate begins.element.zeros 0 ∙ sym begins.zeros_are) in
-    ap (take len) behind ∙ take_at bytes begins.more len (sym begins.len_is)
 
 -- they stand within it
 pub found_within : (file : List ℕ) (at zeros len : ℕ) (begins : BeginsWith (drop at file) zeros len) → at ≤ length file → (at + zeros + len ≤ length file) × (4 ≤ len)
@@ -74,15 +58,6 @@ before_next file elements at zeros len before begins =
       front = before.front ∙ ap (λ (xs : List ℕ). all_spelled elements ++ xs) (begins.rest_is ∙ ap (λ (xs : List ℕ). element_spelling begins.element ++ xs) (sym behind))
           ∙ sym (append_assoc (all_spelled elements) (element_spelling begins.element) (drop (at + zeros + len) file)) ∙ ap (λ (xs : List ℕ). xs ++ drop (at + zeros + len) file) (sym longer);
     }
-
--- it is taken
-pub stands_next : (file ids : List ℕ) (at zeros len : ℕ) (walk after : StreamWalk) (stands : StandsAt file ids at walk) (begins : BeginsWith (drop at file) zeros len) →
-    HasWalked ids (stands.elements ++ begins.element ∷ []) after → StandsAt file ids (at + zeros + len) after
-stands_next file ids at zeros len walk after stands begins walked = record {
-  elements = stands.elements ++ begins.element ∷ [];
-  before = before_next file stands.elements at zeros len stands.before begins;
-  walked = walked;
-}
 
 -- what is read behind zero bytes at a place, as one of its cases
 pub reads_as : (file : List ℕ) (at n m count : ℕ) (result other : Result Front SplitFault) → n ≡ length file - at → m ≡ length (take n (drop at file)) - count

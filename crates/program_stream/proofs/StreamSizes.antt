@@ -12,10 +12,11 @@ use Rattle.program_stream.specs.Streams.{packets_from, packets_of, stream_with_i
 use Rattle.program_stream.specs.Split.{IsSplit}
 
 -- bytes of packets
-abbrev unit_bytes : List PesUnit → ℕ
+abbrev pub unit_bytes : List PesUnit → ℕ
 unit_bytes units = sum_by (λ packet. length packet.bytes) units
 
-packets_small : (at id : ℕ) (elements : List Element) → unit_bytes (packets_from at id elements) ≤ length (all_spelled elements)
+-- they are no more than the elements
+pub packets_small : (at id : ℕ) (elements : List Element) → unit_bytes (packets_from at id elements) ≤ length (all_spelled elements)
 packets_small at id [] = omega arith
 packets_small at id (x ∷ elements) = by_test (x.id == id) (packets_small (at + length (element_spelling x)) id elements)
   where
@@ -30,6 +31,21 @@ packets_small at id (x ∷ elements) = by_test (x.id == id) (packets_small (at +
         let sum : unit_bytes (unit ∷ behind) ≡ length (element_bytes x) + unit_bytes behind = sum_by-cons (λ (packet : PesUnit). length packet.bytes) unit behind in
         omega (arith, small, sum, length-append (element_spelling x) (all_spelled elements), length-append (replicate x.zeros 0) (element_bytes x))
     by_test false small = omega (arith, small, length-append (element_spelling x) (all_spelled elements))
+
+-- so are their numbers
+pub packets_few : (at id : ℕ) (elements : List Element) → length (packets_from at id elements) ≤ length (all_spelled elements)
+packets_few at id [] = omega arith
+packets_few at id (x ∷ elements) = by_test (x.id == id) (packets_few (at + length (element_spelling x)) id elements)
+  where
+    unit : PesUnit
+    unit = record { at = at + x.zeros; bytes = element_bytes x }
+
+    behind : List PesUnit
+    behind = packets_from (at + length (element_spelling x)) id elements
+
+    by_test : (is : Bool) → length behind ≤ length (all_spelled elements) → length (cond is (unit ∷ behind) behind) ≤ length (all_spelled (x ∷ elements))
+    by_test true few = omega (arith, few, length-append (element_spelling x) (all_spelled elements), length-append (replicate x.zeros 0) (element_bytes x))
+    by_test false few = omega (arith, few, length-append (element_spelling x) (all_spelled elements))
 
 of_file : (file drop : List ℕ) (demuxed : Demuxed) (cut : ℕ) (is : IsSplit file drop demuxed cut) (id : ℕ) → unit_bytes (packets_of is.elements id) ≤ length file
 of_file file drop demuxed cut is id =

@@ -3,4 +3,5 @@ pub mod Streams
 pub mod Split
 pub mod Forms
 pub mod PassingElements
+pub mod ElementStreams
 pub mod Private

@@ -29,6 +29,10 @@ bytes_of passing = take passing.len passing.buffer
 abbrev pub rest_of : PassingElements → List ℕ
 rest_of passing = replicate passing.zeros 0 ++ drop passing.len passing.buffer
 
+-- how many bytes were taken from it
+abbrev pub taken_of : PassingElements → ℕ
+taken_of passing = passing.place + passing.zeros + length passing.buffer
+
 -- where zero bytes are counted alone, two more stand first among the bytes that are held, so that a start code prefix stands whole
 abbrev pub KeepsTwo : ℕ → List ℕ → Type 0
 KeepsTwo zeros held = 0 < zeros → (more : List ℕ) × (held ≡ 0 ∷ 0 ∷ more)
@@ -45,12 +49,13 @@ pub record HasPassed (left left_after : Option (List ℕ)) (most most_after : �
   pub held : passing.len ≤ length passing.buffer
   pub two : KeepsTwo passing.zeros (drop passing.len passing.buffer)
 
--- what comes of a step behind some elements: one more has passed, with its place and its bytes; or all elements of the file have, and so many last ones are cut
+-- what comes of a step behind some elements: one more has passed, with its place and its bytes; or all elements of the file have, all its bytes were taken, and
+-- so many last elements are cut
 abbrev pub Goes : Passed → (left left_after : Option (List ℕ)) → (most most_after : ℕ) → List Element → PassingElements → Type 0
 Goes steps.Element left left_after most most_after elements passing =
     (element : Element) × (bytes_of passing ≡ element_bytes element) × (place_of passing ≡ length (all_spelled elements) + element.zeros)
     × HasPassed left left_after most most_after (elements ++ element ∷ []) passing
-Goes (steps.End cut) left left_after most most_after elements passing = IsWhole left left_after most most_after [] (λ file. HasElements file elements cut)
+Goes (steps.End cut) left left_after most most_after elements passing = IsWhole left left_after most most_after [] (λ file. HasElements file elements cut × (length file ≡ taken_of passing))
 
 -- ---- refusals
 

@@ -6,29 +6,30 @@ use list_types::OutOfMemory;
 use shelf_io::{Fault, Source};
 use std::alloc::Global;
 use std::marker::Model;
+use ts_demux::SourceBuffer;
 
 /// The bytes of the room: more than the longest element has.
 pub const ROOM_BYTES: usize = 0x20000;
+
+/// The bytes that are taken from a source at once, which stay in the nearest cache.
+const STEP_BYTES: usize = 3_072;
 
 /// The bytes of a source one behind the other, out of a room that holds the longest element. The source is lent to each call.
 /// Contracts see the bytes that were taken from it and aren't passed yet.
 #[derive(Drop)]
 pub struct ElementBuffer {
-    room: Vec<u8>,
-    /// The bytes that aren't passed yet stand in the room from here on.
-    from: usize,
-    /// They stand up to here.
-    to: usize,
+    bytes: SourceBuffer,
 }
 
 impl Model for ElementBuffer {
-    ghost use Rattle.std.specs.Prelude.{ℕ, List, length, take, drop, ◌-◌, ◌≤◌};
+    ghost use Rattle.std.specs.Prelude.{ℕ, List, ◌≤◌};
+    ghost use Rattle.ts_demux.specs.SourceBuffer.{held_bytes, room_size};
 
     ghost Value = { List ℕ };
 
-    ghost view = { λ a. take (a.to - a.from) (drop a.from a.room.items) };
+    ghost view = { λ a. held_bytes a.bytes };
 
-    ghost invariant = { λ a. (a.from ≤ a.to) × (a.to ≤ length a.room.items) × (0x20000 ≤ length a.room.items) };
+    ghost invariant = { λ a. 0x20000 ≤ room_size a.bytes };
 }
 
 impl ElementBuffer {
@@ -38,9 +39,7 @@ impl ElementBuffer {
     {
         let room = vec![in alloc; 0u8; ROOM_BYTES]?;
         Ok(ElementBuffer {
-            room,
-            from: 0,
-            to: 0,
+            bytes: SourceBuffer::new(room, STEP_BYTES),
         })
     }
 
@@ -48,7 +47,7 @@ impl ElementBuffer {
     pub fn rest(&self) -> &[u8]
         ensures { result.now ≡ self.now }
     {
-        &self.room[self.from..self.to]
+        self.bytes.rest()
     }
 
     /// The first of them, so many where there are.
@@ -67,7 +66,7 @@ impl ElementBuffer {
         requires { count ≤ length self.old }
         ensures { self.new ≡ drop count self.old }
     {
-        self.from += count;
+        self.bytes.pass(count);
     }
 
     /// Takes from the source until so many bytes are held, or the source ends. A fault is the source's; nothing that was taken is lost.
@@ -78,13 +77,7 @@ impl ElementBuffer {
         ensures causes { SourceCauses S.faults S.absences (IsErrOf result Fault.Failed) (IsErrOf result Fault.Missing) source.old source.new }
         ensures keeps { S.keeps source.old source.new }
     {
-        while self.rest().len() < least {
-            let count = self.take_some(source)?;
-            if count == 0 {
-                return Ok(());
-            }
-        }
-        Ok(())
+        self.bytes.fill(source, least)
     }
 
     /// Takes from the source once, and answers whether any byte came: none only at its end.
@@ -96,27 +89,10 @@ impl ElementBuffer {
         ensures causes { SourceCauses S.faults S.absences (IsErrOf result Fault.Failed) (IsErrOf result Fault.Missing) source.old source.new }
         ensures keeps { S.keeps source.old source.new }
     {
-        let count = self.take_some(source)?;
+        let count = self.bytes.take_some(source)?;
         if count == 0 {
             return Ok(false);
         }
         Ok(true)
-    }
-
-    /// Takes from the source once, and answers how many bytes: none only at its end.
-    fn take_some<S: Source>(&mut self, source: &mut S) -> Result<usize, Fault>
-        requires { length self.old < ROOM_BYTES }
-        ensures count { IfOk result (λ n. length self.new ≡ length self.old + n) }
-        ensures end { result ≡ Ok 0 → IsAtEnd (S.left source.new) }
-        ensures passes { Passes (S.left source.old) (S.left source.new) (S.most source.old) (S.most source.new) self.old [] self.new }
-        ensures causes { SourceCauses S.faults S.absences (IsErrOf result Fault.Failed) (IsErrOf result Fault.Missing) source.old source.new }
-        ensures keeps { S.keeps source.old source.new }
-    {
-        self.room.as_mut_slice().copy_within(self.from..self.to, 0);
-        self.to -= self.from;
-        self.from = 0;
-        let count = source.take(&mut self.room[self.to..])?;
-        self.to += count;
-        Ok(count)
     }
 }

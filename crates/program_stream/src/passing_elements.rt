@@ -38,7 +38,7 @@ pub struct PassingElements {
 }
 
 impl PassingElements {
-    ghost use Rattle.program_stream.specs.PassingElements.{bytes_of, Goes, HasPassed, place_of};
+    ghost use Rattle.program_stream.specs.PassingElements.{bytes_of, Goes, HasPassed, place_of, taken_of};
     ghost use Rattle.program_stream.specs.Private.Waiting.{waiting_of};
 
     /// A pass before the first element of a source. An error is the source's fault, want of memory, or that the source has fewer bytes than a
@@ -108,6 +108,14 @@ impl PassingElements {
         ensures { result ≡ place_of self.now }
     {
         self.place
+    }
+
+    /// How many bytes were taken from the source.
+    pub fn taken(&self) -> u64
+        requires { taken_of self.now < 2 ^ 64 }
+        ensures { result ≡ taken_of self.now }
+    {
+        self.place + self.zeros as u64 + self.buffer.rest().len() as u64
     }
 
     /// Holds no element more.

@@ -1,15 +1,10 @@
-ghost use Rattle.std.specs.Prelude.{◌≡◌, ◌≤◌, ◌⊎◌, [], length, MatchResult, IfOk, IfErr};
-ghost use Rattle.program_stream.specs.declared.split_fault.SplitFault.TheVariants.{OutOfMemory};
-ghost use Rattle.program_stream.specs.Elements.{IsFirstRefusal};
-ghost use Rattle.program_stream.specs.Private.Walks.{HasWalked};
-ghost use Rattle.program_stream.specs.Private.Steps.{StandsAt, StandsBehind, IsWithin, Steps};
+ghost use Rattle.std.specs.Prelude.{MatchResult};
 ghost use Rattle.program_stream.specs.Split.{IsSplit, IsSplitRefused};
 
-use crate::found_elements::Step;
-use crate::front::{Front, read_front, zeros_before};
+use crate::element_fault::ElementFault;
+use crate::source_split::split_source;
 use crate::split_fault::SplitFault;
-use crate::stream_ids::PACK_HEADER_BYTES;
-use crate::stream_walk::StreamWalk;
+use shelf_io::{SOURCE_BYTES_MOST, SliceSource};
 use std::alloc::Global;
 use ts_demux::Demuxed;
 
@@ -20,68 +15,12 @@ use ts_demux::Demuxed;
 pub fn split(alloc: Global, file: &[u8], drop: &[u16]) -> Result<(Demuxed, u32), SplitFault>
     ensures { MatchResult result (λ answer. IsSplit file.now drop.now answer.0 answer.1) (IsSplitRefused file.now drop.now) }
 {
-    if file.len() < PACK_HEADER_BYTES {
-        return Err(SplitFault::ShortFile { at: 0 });
+    if file.len() as u64 > SOURCE_BYTES_MOST {
+        return Err(SplitFault::OutOfMemory);
     }
-    let mut walk = StreamWalk::new(alloc);
-    let cut = match walk_elements(alloc, file, drop, &mut walk) {
-        Ok(cut) => cut,
-        Err(fault) => return Err(fault),
-    };
-    match walk.into_demuxed() {
-        Ok(demuxed) => Ok((demuxed, cut)),
-        Err(fault) => Err(fault),
-    }
-}
-
-/// Takes the elements of a file one behind the other, and answers how many last ones are cut. An error is the first refusal among them,
-/// or want of memory.
-fn walk_elements(
-    alloc: Global,
-    file: &[u8],
-    drop: &[u16],
-    walk: &mut StreamWalk,
-) -> Result<u32, SplitFault>
-    requires { HasWalked drop.now [] walk.old }
-    ensures cut { IfOk result (λ cut. StandsBehind file.now drop.now cut walk.new) }
-    ensures refused { IfErr result (λ fault. (fault ≡ OutOfMemory) ⊎ IsFirstRefusal file.now fault) }
-{
-    let mut at = 0;
-    loop {
-        match take_element(alloc, file, drop, at, walk) {
-            Ok(Step::End { cut }) => return Ok(cut),
-            Ok(Step::Next { at: next }) => at = next,
-            Err(fault) => return Err(fault),
-        }
-    }
-}
-
-/// Takes the element that stands at a place of the file, behind those that were taken.
-fn take_element(
-    alloc: Global,
-    file: &[u8],
-    drop: &[u16],
-    at: usize,
-    walk: &mut StreamWalk,
-) -> Result<Step, SplitFault>
-    requires within { at ≤ length file.now }
-    requires stands { StandsAt file.now drop.now at walk.old }
-    ensures steps { Steps file.now drop.now at result walk.new }
-    ensures within { IfOk result (λ step. IsWithin (length file.now) step) }
-{
-    let rest = &file[at..];
-    let zeros = zeros_before(rest);
-    let front = match read_front(&rest[zeros..], zeros, at as u64) {
-        Ok(front) => front,
-        Err(fault) => return Err(fault),
-    };
-    match front {
-        Front::Zeros => Ok(Step::End { cut: 0 }),
-        Front::Cut => Ok(Step::End { cut: 1 }),
-        Front::Whole { len } => {
-            let from = at + zeros;
-            walk.take(alloc, drop, from as u64, &file[from..from + len])?;
-            Ok(Step::Next { at: from + len })
-        }
+    match split_source(alloc, &mut SliceSource::new(file), drop) {
+        Ok(answer) => Ok(answer),
+        Err(ElementFault::Refused(fault)) => Err(fault),
+        Err(ElementFault::Outside(_)) => Err(SplitFault::OutOfMemory),
     }
 }

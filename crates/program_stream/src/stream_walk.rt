@@ -18,13 +18,13 @@ use stream_constants::limits::AUDIOS_MOST;
 use ts_demux::{AudioStream, Demuxed};
 
 /// `stream_type` of video (ISO/IEC 13818-2).
-const VIDEO: u8 = 0x02;
+pub(crate) const VIDEO: u8 = 0x02;
 
 /// `stream_type` of audio (ISO/IEC 11172-3).
-const AUDIO: u8 = 0x03;
+pub(crate) const AUDIO: u8 = 0x03;
 
 /// The PID by which a map says that no stream has its clock references (ISO/IEC 13818-1, 2.4.4.9).
-const NO_CLOCK: u16 = 0x1FFF;
+pub(crate) const NO_CLOCK: u16 = 0x1FFF;
 
 /// The streams of a program stream, while its elements pass.
 #[derive(Drop)]
@@ -172,21 +172,21 @@ pub fn map_stream(kind: u8, pid: u16) -> Stream
 }
 
 /// True for the id of a video stream.
-fn is_video(id: u16) -> bool
+pub(crate) fn is_video(id: u16) -> bool
     ensures { result ≡ is_stream_id true id }
 {
     u16::from(FIRST_VIDEO) <= id && id <= u16::from(LAST_VIDEO)
 }
 
 /// True for the id of an audio stream that isn't to be dropped.
-fn is_carried_audio(drop: &[u16], id: u16) -> bool
+pub(crate) fn is_carried_audio(drop: &[u16], id: u16) -> bool
     ensures { result ≡ is_carried_audio drop.now id }
 {
     u16::from(FIRST_AUDIO) <= id && id <= u16::from(LAST_AUDIO) && !drop.contains(&id)
 }
 
 /// True for the id of a packet that may be of a stream.
-fn may_be_stream(id: u16) -> bool
+pub(crate) fn may_be_stream(id: u16) -> bool
     ensures { result ≡ may_be_stream id }
 {
     id > u16::from(PROGRAM_STREAM_MAP) && id != u16::from(PADDING_STREAM)

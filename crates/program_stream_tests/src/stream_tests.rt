@@ -7,12 +7,12 @@ use std::test::Fail;
 use ts_demux::PesUnit;
 
 /// A packet of one byte, of a stream of an id.
-fn packet(id: u8, byte: u8) -> [u8; 7] {
+pub fn packet(id: u8, byte: u8) -> [u8; 7] {
     [0, 0, 1, id, 0, 1, byte]
 }
 
 /// Two video streams, two audio streams, a private stream, padding, and stuffing in a pack header.
-fn several(alloc: Global) -> Result<Vec<u8>, AllocError> {
+pub fn several(alloc: Global) -> Result<Vec<u8>, AllocError> {
     let mut stuffed = PACK;
     stuffed[13] = 0xFA;
     file_of(

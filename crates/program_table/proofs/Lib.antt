@@ -3,6 +3,6 @@ pub mod AudioTimes
 mod Examples
 pub mod Rows
 mod TableLimits
-pub mod TakenOut
 pub mod UnitLimits
 mod SizedRows
+mod PassedRows

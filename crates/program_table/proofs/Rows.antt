@@ -14,9 +14,6 @@ use Rattle.std.proofs.Common.{
   drop,
   get_or,
   map,
-  Option,
-  Some,
-  None,
   refl,
   ap,
   subst,
@@ -27,7 +24,6 @@ use Rattle.std.proofs.Common.{
   append-nil,
 }
 use Rattle.std.proofs.lemmas.List.{drop_more}
-use Rattle.syntax_types.specs.declared.picture.SeqState.{SeqState}
 use Rattle.job_report.specs.declared.job.Job.{Job}
 use Rattle.job_report.specs.declared.job.ProgramJob.{ProgramJob}
 use Rattle.version_table.specs.declared.table.ProgramRow.{ProgramRow}
@@ -35,18 +31,14 @@ use Rattle.version_table.specs.declared.table.Table.{Table}
 use Rattle.version_table.specs.declared.table.Unit.{Unit as CodedUnit}
 use Rattle.program_reader.specs.declared.program.Program.{Program}
 use Rattle.program_reader.specs.declared.program.UnitSource.{UnitSource}
-use Rattle.program_reader.specs.Carry.{unit_weight}
 use Rattle.version_table.specs.declared.table.Version.{Version}
 use Rattle.pes_units.specs.VideoHeader.{written_pes_header}
 use Rattle.version_maker.specs.declared.version.UnitVersion.{UnitVersion}
 use Rattle.version_maker.specs.declared.version.VersionSize.{VersionSize}
-use Rattle.version_maker.specs.Versions.{AreSizes, AreVersions, size_of}
-use Rattle.version_source.specs.Sendable.{LeavesState, SpellInOrder, bytes_of_unit}
+use Rattle.version_maker.specs.Versions.{size_of}
 use Rattle.version_source.specs.Versions.{AreAllVersions, ratios_of}
-use Rattle.version_source.specs.Private.OneVersions.{one-state}
-use Rattle.version_source.proofs.StateLemmas.{state-left}
-use Rattle.program_table.specs.Table.{IsRowOf, IsTableOf, program_rows, row_version, unit_row, unit_rows}
-use Rattle.program_table.specs.Private.Rows.{AreProgramRowsSoFar, AreUnitRows, AreUnitRowsSoFar, IsUnitRow, with_header}
+use Rattle.program_table.specs.Table.{IsRowOf, IsTableOf, program_rows, row_version}
+use Rattle.program_table.specs.Private.Rows.{AreProgramRowsSoFar, with_header}
 
 -- ---- one unit
 
@@ -57,59 +49,6 @@ rows-of-sizes weight unit (v ∷ vs) = ap (λ (rows : List Version). row_version
 
 abbrev pub unit_with : ℕ → List Version → CodedUnit
 unit_with due items = record { due = due; versions = record { items = items } }
-
--- versions of these sizes with a header before each are those of the unit
-pub unit-row-of : (es coarser : List ℕ) (before : Option SeqState) (weight : ℕ) (unit : UnitSource) (bytes : List ℕ) (sizes : List VersionSize) (header : ℕ) (made : List Version)
-    → bytes ≡ bytes_of_unit es unit → AreSizes before bytes coarser sizes → header ≡ length (written_pes_header unit.times) → made ≡ map (with_header header weight) sizes
-    → IsUnitRow es coarser before weight unit (unit_with unit.due made)
-unit-row-of es coarser before weight unit bytes sizes header made same are length_is made_is = record {
-  versions = are.versions;
-  are_versions = subst (λ (b : List ℕ). AreVersions before b coarser are.versions) same are.are;
-  row_is = ap (unit_with unit.due) (
-      made_is
-      ∙ ap (λ (n : ℕ). map (with_header n weight) sizes) length_is
-      ∙ ap (λ (those : List VersionSize). map (with_header (length (written_pes_header unit.times)) weight) those) are.each
-      ∙ rows-of-sizes weight unit are.versions
-      );
-}
-
--- ---- units
-
-more-units : (es coarser : List ℕ) (weight drift : ℕ) (units left rest : List UnitSource) (before : Option SeqState) (unit : UnitSource) (after : SeqState) (rows more : List CodedUnit) (row : CodedUnit) (own : ℕ)
-    → left ≡ unit ∷ rest → own ≡ unit_weight weight drift unit rest → more ≡ rows ++ row ∷ [] → AreUnitRowsSoFar es coarser weight drift units left before rows → IsUnitRow es coarser before own unit row
-    → LeavesState before (bytes_of_unit es unit) after → AreUnitRowsSoFar es coarser weight drift units rest (Some after) more
-more-units es coarser weight drift units left rest before unit after rows more row own split weighs pushed far is leaves =
-    let here : AreUnitRowsSoFar es coarser weight drift units (unit ∷ rest) before rows =
-    subst (λ (those : List UnitSource). AreUnitRowsSoFar es coarser weight drift units those before rows) split far in
-    let next : SpellInOrder es before (unit ∷ rest) = here.spelled in
-    record {
-      may_precede = state-left before (bytes_of_unit es unit) after here.may_precede leaves;
-      spelled = subst (λ (s : SeqState). SpellInOrder es (Some s) rest) (one-state before (bytes_of_unit es unit) next.0 after next.1 leaves) next.2;
-      all = λ versions are.
-          let (every, those, rows_are) = here.all (is.versions ∷ versions) (after, leaves, is.are_versions, are) in (
-            every,
-            those,
-            rows_are ∙ ap (λ (n : ℕ). rows ++ unit_row n unit is.versions ∷ unit_rows weight drift rest versions) (sym weighs)
-                ∙ ap (λ (r : CodedUnit). rows ++ r ∷ unit_rows weight drift rest versions) (sym is.row_is) ∙ sym (append_assoc rows (row ∷ []) (unit_rows weight drift rest versions))
-                ∙ ap (λ (xs : List CodedUnit). xs ++ unit_rows weight drift rest versions) (sym pushed),
-          );
-    }
-
--- one more unit, whose row and state were made behind copies of the state
-pub one-more-unit : (es coarser : List ℕ) (weight drift : ℕ) (units : List UnitSource) (k : ℕ) (d : UnitSource) (before first second : Option SeqState) (after : SeqState) (rows more : List CodedUnit)
-    (row : CodedUnit) (own : ℕ) → k < length units → own ≡ unit_weight weight drift (get_or units k d) (drop (k + 1) units) → first ≡ before → second ≡ before → more ≡ rows ++ row ∷ [] → AreUnitRowsSoFar es coarser weight drift units (drop k units) before rows
-    → IsUnitRow es coarser first own (get_or units k d) row → LeavesState second (bytes_of_unit es (get_or units k d)) after → AreUnitRowsSoFar es coarser weight drift units (drop (k + 1) units) (Some after) more
-one-more-unit es coarser weight drift units k d before first second after rows more row own within weighs one two pushed far is leaves =
-    more-units es coarser weight drift units (drop k units) (drop (k + 1) units) before (get_or units k d) after rows more row own (drop_more units k d within) weighs pushed far
-    (subst (λ (s : Option SeqState). IsUnitRow es coarser s own (get_or units k d) row) one is) (subst (λ (s : Option SeqState). LeavesState s (bytes_of_unit es (get_or units k d)) after) two leaves)
-
-pub all-units : (es coarser : List ℕ) (weight drift : ℕ) (units left : List UnitSource) (before : Option SeqState) (rows : List CodedUnit) → left ≡ []
-    → AreUnitRowsSoFar es coarser weight drift units left before rows → AreUnitRows es coarser None weight drift units rows
-all-units es coarser weight drift units left before rows none far =
-    let here : AreUnitRowsSoFar es coarser weight drift units [] before rows =
-    subst (λ (those : List UnitSource). AreUnitRowsSoFar es coarser weight drift units those before rows) none far in
-    let (versions, those, rows_are) = here.all [] tt in
-    record { versions = versions; are_versions = those; rows_are = sym (rows_are ∙ append-nil rows) }
 
 -- ---- programs
 

@@ -34,8 +34,7 @@ use Rattle.std.proofs.Common.{
 use Rattle.std.proofs.lemmas.List.{drop_more, length-drop, length-take-le}
 use Rattle.std.proofs.lemmas.List.Elements.{All-cons, All-head, All-nil, All-tail}
 use Rattle.bit_lists.specs.Fields.{AreBytes}
-use Rattle.bit_lists.proofs.ByteLemmas.{AreBytes-take}
-use Rattle.picture_reader.proofs.Parts.{are-dropped}
+use Rattle.bit_lists.proofs.ByteLemmas.{AreBytes-take, AreBytes-drop}
 use Rattle.picture_grammar.specs.Picture.{MayPrecede}
 use Rattle.syntax_types.specs.declared.picture.SeqState.{SeqState}
 use Rattle.job_report.specs.declared.job.ProgramJob.{ProgramJob}
@@ -85,7 +84,7 @@ all-bounded law es coarser before [] [] bytes may each are = All-nil AreBounded
 all-bounded law es coarser before [] (s ∷ ss) bytes may each are = absurd are
 all-bounded law es coarser before (u ∷ us) [] bytes may each are = absurd are
 all-bounded law es coarser before (u ∷ us) (s ∷ ss) bytes may each are =
-    let own : AreBytes (bytes_of_unit es u) = AreBytes-take (u.end - u.begin) (drop u.begin es) (are-dropped u.begin es bytes) in
+    let own : AreBytes (bytes_of_unit es u) = AreBytes-take (u.end - u.begin) (drop u.begin es) (AreBytes-drop u.begin es bytes) in
     let here : AreSizes before (bytes_of_unit es u) coarser s.versions.items = are.0 in
     let after : MayPrecede (Some here.are.picture.seq) = state-left before (bytes_of_unit es u) here.are.picture.seq may (leaves-sized before (bytes_of_unit es u) coarser s.versions.items here) in
     All-cons AreBounded s ss (law before (bytes_of_unit es u) coarser s.versions.items may own (unit-short es u (All-head (IsUnitOf es) u us each)) here)

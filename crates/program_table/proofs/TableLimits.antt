@@ -1,14 +1,12 @@
 -- The table of the programs of a job keeps the limits of tables.
-use Rattle.std.proofs.Common.{◌≡◌, ℕ, zero, suc, ◌+◌, ◌*◌, ◌<◌, ◌≤◌, ◌⊎◌, List, [], ◌∷◌, ◌++◌, length, map, sum_by, All, None, inl, inr, ap, subst, sym, ◌∙◌, arith, append_assoc, append-nil}
+use Rattle.std.proofs.Common.{◌≡◌, ℕ, zero, suc, ◌+◌, ◌*◌, ◌<◌, ◌≤◌, ◌⊎◌, List, [], ◌∷◌, ◌++◌, length, map, sum_by, All, None, inl, inr, ap, subst, sym, ◌∙◌, arith}
 use Rattle.std.specs.List.{flat_map}
 use Rattle.std.specs.List.Sorted.{IsStrictlyIncreasing}
 use Rattle.std.proofs.lemmas.Bool.{cases_order}
 use Rattle.std.proofs.lemmas.List.{length-append, length-map}
 use Rattle.std.proofs.lemmas.List.Elements.{All-cons, All-head, All-nil, All-tail}
 use Rattle.std.proofs.lemmas.List.Sums.{sum_by-append, sum_by-cons}
-use Rattle.bit_lists.specs.Fields.{AreBytes}
 use Rattle.picture_grammar.specs.Picture.{IsState}
-use Rattle.job_report.specs.declared.job.Form.{Form}
 use Rattle.job_report.specs.declared.job.Job.{Job}
 use Rattle.job_report.specs.declared.job.ProgramJob.{ProgramJob}
 use Rattle.job_report.specs.ValidJob.{IsValidJob, IsValidProgramJob}
@@ -18,15 +16,16 @@ use Rattle.version_table.specs.declared.table.Table.{Table}
 use Rattle.version_table.specs.Table.{IsValidProgram, IsValidTable, IsValidUnit, audio_packets_of, greatest_distortion, units_of}
 use Rattle.version_table.proofs.Greatest.{greatest_together}
 use Rattle.program_reader.specs.declared.program.Program.{Program}
-use Rattle.program_reader.specs.Programs.{IsProgram, IsProgramOfFile, video_bytes, video_packets}
+use Rattle.program_reader.specs.Programs.{IsProgram, video_bytes, video_packets}
 use Rattle.program_reader.specs.Units.{AreInOrder}
 use Rattle.job_programs.specs.Distortions.{IsNear, KeepsDistortions}
 use Rattle.job_programs.specs.Share.{KeepsShare, audio_packets}
-use Rattle.job_programs.specs.Programs.{AreNextPrograms, ArePrograms, IsNextProgram, IsWithinTime, units_of_programs}
+use Rattle.job_programs.specs.Programs.{IsWithinTime, units_of_programs}
+use Rattle.job_programs.specs.Read.{AreReadEach, AreReadPrograms, IsReadFor}
+use Rattle.program_reader.specs.ReadProgram.{HasItsStreams, IsReadProgram}
 use Rattle.version_maker.specs.declared.version.UnitVersion.{UnitVersion}
 use Rattle.version_source.specs.Versions.{AreAllVersions, AreVideoVersions, ratios_of}
 use Rattle.program_table.specs.Table.{IsRowOf, IsTableOf, audio_row, program_row, program_rows, unit_rows}
-use Rattle.program_table.proofs.TakenOut.{HasItsStreams, its-streams}
 use Rattle.program_table.proofs.AudioLimits.{rows-packets, sources-as-many, streams-valid}
 use Rattle.program_table.proofs.UnitLimits.{AreAllNear, HavePlaces, Climb, IsShortUnit, all-near, told-near, told-together, climb-rises, dues-climb, dues_of, kept-in-order, pictures-state, row-dues, rows-few, rows-valid, sources-many, units-short}
 
@@ -42,11 +41,11 @@ record IsFine (slot : ℕ) (row : ProgramRow) : Type 0 where
   pub few : length (audio_packets_in row) ≤ 536870911
   pub together : sum_by greatest_distortion row.units < 1152921504606846976
 
-program-short : (start : ℕ) (form : Form) (number : ℕ) (content drop : List ℕ) (program : Program) → IsProgramOfFile form content number drop start program → All IsShortUnit program.units
-program-short start form number content drop program holds =
-    let read : IsProgram start holds.demuxed program = holds.program_is in
-    let es = video_bytes holds.demuxed in
-    let packets = video_packets holds.demuxed in
+program-short : (start : ℕ) (program : Program) → IsReadProgram start program → All IsShortUnit program.units
+program-short start program was =
+    let read : IsProgram start was.demuxed program = was.program_is in
+    let es = video_bytes was.demuxed in
+    let packets = video_packets was.demuxed in
     let pictures = read.has_pictures in
     units-short start read.earliest es packets [] read.kept read.pictures program.units read.units_are
     (kept-in-order es packets pictures.units.cuts read.kept read.pictures pictures.at_end pictures.kept_are)
@@ -77,12 +76,12 @@ together-of slot weight coarser program versions drift keeps valid is = by-drift
     by-drift (suc less) keeps valid = told (suc less) (keeps (inl (omega arith)))
     by-drift zero keeps valid = by-count keeps valid (cases_order 4096 (length program.units))
 
-program-fine : HavePlaces → (slot start : ℕ) (form : Form) (number weight drift : ℕ) (content drop coarser : List ℕ) (program : Program) (versions : List (List UnitVersion)) → length coarser ≤ 7
-    → IsProgramOfFile form content number drop start program → IsWithinTime slot program → AreBytes program.video → AreVideoVersions program.video coarser None program.units versions
+program-fine : HavePlaces → (slot start weight drift : ℕ) (coarser : List ℕ) (program : Program) (versions : List (List UnitVersion)) → length coarser ≤ 7
+    → IsReadProgram start program → IsWithinTime slot program → AreVideoVersions program.video coarser None program.units versions
     → KeepsShare weight drift coarser program → AreAllNear weight drift program.units versions → IsFine slot (program_row weight drift program versions)
-program-fine places slot start form number weight drift content drop coarser program versions few_ratios holds within are is room near =
-    let demuxed = holds.demuxed in
-    let read : IsProgram start demuxed program = holds.program_is in
+program-fine places slot start weight drift coarser program versions few_ratios was within is room near =
+    let demuxed = was.demuxed in
+    let read : IsProgram start demuxed program = was.program_is in
     let es = video_bytes demuxed in
     let packets = video_packets demuxed in
     let pictures = read.has_pictures in
@@ -95,14 +94,14 @@ program-fine places slot start form number weight drift content drop coarser pro
     let climb : Climb 0 (dues_of program.units) =
     dues-climb start read.earliest es packets [] 0 read.kept read.pictures program.units (λ ticks due later is. omega arith) read.units_are in_order in
     let rises : IsStrictlyIncreasing (dues_of program.units) = climb-rises 0 (dues_of program.units) climb in
-    let short : All IsShortUnit program.units = program-short start form number content drop program holds in
+    let short : All IsShortUnit program.units = program-short start program was in
     let as_many : length program.audios ≡ length demuxed.audios = sources-as-many start read.earliest demuxed.audios read.frames program.audios read.audios_are in
-    let its : HasItsStreams demuxed = its-streams form content number drop demuxed holds.demuxed_is in
+    let its : HasItsStreams demuxed = was.within.its_streams in
     let audios : length (map audio_row program.audios) ≡ length program.audios = length-map program.audios audio_row in
     let count : length (flat_map (λ packets. packets) (map audio_row program.audios)) ≡ audio_packets program.audios = rows-packets program.audios in
     let eight : length program.audios ≤ 8 = omega (arith, as_many, its.few) in
     let units : All (IsValidUnit slot) (unit_rows weight drift program.units versions) =
-    rows-valid places slot weight drift program.video coarser None program.units versions few_ratios are tt short within.units is near in
+    rows-valid places slot weight drift program.video coarser None program.units versions few_ratios was.bytes tt short within.units is near in
     record {
       valid = record {
         some_vbv = omega (arith, vbv, least);
@@ -117,16 +116,16 @@ program-fine places slot start form number weight drift content drop coarser pro
     }
 
 -- a row has a place in a table: it keeps the limits, and its units and audio packets aren't too many
-pub row-valid : HavePlaces → (slot start : ℕ) (form : Form) (number weight : ℕ) (content drop coarser : List ℕ) (program : Program) (row : ProgramRow) → weight ≤ 100 → length coarser ≤ 7
-    → IsProgramOfFile form content number drop start program → IsWithinTime slot program → KeepsShare weight 0 coarser program → AreBytes program.video → IsRowOf program coarser weight 0 row
+pub row-valid : HavePlaces → (slot start weight : ℕ) (coarser : List ℕ) (program : Program) (row : ProgramRow) → weight ≤ 100 → length coarser ≤ 7
+    → IsReadProgram start program → IsWithinTime slot program → KeepsShare weight 0 coarser program → IsRowOf program coarser weight 0 row
     → IsValidProgram slot row × (length row.units ≤ 4194304) × (length (flat_map (λ packets. packets) row.audios) < 4294967296)
     × (sum_by greatest_distortion row.units < 9223372036854775808)
-row-valid places slot start form number weight content drop coarser program row light few_ratios holds within room are is =
+row-valid places slot start weight coarser program row light few_ratios was within room is =
     let fine : IsFine slot row =
-    subst (IsFine slot) (sym is.row_is) (program-fine places slot start form number weight 0 content drop coarser program is.versions few_ratios holds within are is.are_versions room
-    (all-near places weight program.video coarser None program.units is.versions light are tt (program-short start form number content drop program holds) is.are_versions)) in
+    subst (IsFine slot) (sym is.row_is) (program-fine places slot start weight 0 coarser program is.versions few_ratios was within is.are_versions room
+    (all-near places weight program.video coarser None program.units is.versions light was.bytes tt (program-short start program was) is.are_versions)) in
     let rows : length row.units ≡ length (unit_rows weight 0 program.units is.versions) = ap (λ (r : ProgramRow). length r.units) is.row_is in
-    let read : IsProgram start holds.demuxed program = holds.program_is in
+    let read : IsProgram start was.demuxed program = was.program_is in
     let count : length program.units ≡ length read.kept = sources-many start read.earliest read.kept read.pictures program.units read.units_are in
     let most : length read.kept ≤ 4194304 = read.few in
     let few : length row.units ≤ 4194304 = omega (arith, rows, rows-few weight 0 program.units is.versions, count, most) in
@@ -134,37 +133,30 @@ row-valid places slot start form number weight content drop coarser program row 
 
 -- ---- all programs
 
-one-fine : HavePlaces → (slot start : ℕ) (contents : List (List ℕ)) (before : List Program) (job : ProgramJob) (content : List ℕ) (program : Program) (versions : List (List UnitVersion))
-    → IsValidProgramJob job → IsNextProgram slot start contents before job content program → AreBytes program.video
-    → AreVideoVersions program.video job.coarser.items None program.units versions → IsFine slot (program_row job.weight job.drift program versions)
-one-fine places slot start contents before job content program versions valid next are is =
-    program-fine places slot start job.form job.program job.weight job.drift content job.drop.items job.coarser.items program versions valid.few_coarser next.holds next.within are is next.share
-    (by-drift job.drift next.share.distortions)
+one-fine : HavePlaces → (slot start : ℕ) (job : ProgramJob) (program : Program) (versions : List (List UnitVersion))
+    → IsValidProgramJob job → IsReadFor slot start job program → AreVideoVersions program.video job.coarser.items None program.units versions
+    → IsFine slot (program_row job.weight job.drift program versions)
+one-fine places slot start job program versions valid was is =
+    program-fine places slot start job.weight job.drift job.coarser.items program versions valid.few_coarser was.read was.within is was.share (by-drift job.drift was.share.distortions)
   where
     by-drift : (drift : ℕ) → KeepsDistortions job.weight drift job.coarser.items program → AreAllNear job.weight drift program.units versions
     by-drift zero keeps =
-        all-near places job.weight program.video job.coarser.items None program.units versions valid.weight are tt (program-short start job.form job.program content job.drop.items program next.holds) is
+        all-near places job.weight program.video job.coarser.items None program.units versions valid.weight was.read.bytes tt (program-short start program was.read) is
     by-drift (suc less) keeps =
         let near = keeps (inl (omega arith)) in
         told-near job.weight (suc less) program.video job.coarser.items None program.units versions near.sizes is near.are_sizes near.near
 
-programs-fine : HavePlaces → (slot start : ℕ) (contents further : List (List ℕ)) (before programs : List Program) (jobs : List ProgramJob) (versions : List (List (List UnitVersion)))
-    → All IsValidProgramJob jobs → AreNextPrograms slot start contents before jobs further programs → All (λ program. AreBytes program.video) programs
-    → AreAllVersions programs (ratios_of jobs) versions → All (IsFine slot) (program_rows jobs programs versions)
-programs-fine places slot start contents [] before [] [] [] valid next are is = All-nil (IsFine slot)
-programs-fine places slot start contents [] before [] [] (v ∷ vs) valid next are is = absurd is
-programs-fine places slot start contents further before [] (j ∷ js) versions valid next are is = absurd is
-programs-fine places slot start contents [] before (p ∷ ps) [] versions valid next are is = absurd is
-programs-fine places slot start contents [] before (p ∷ ps) (j ∷ js) versions valid next are is = absurd next
-programs-fine places slot start contents (c ∷ cs) before [] [] versions valid next are is = absurd next
-programs-fine places slot start contents (c ∷ cs) before (p ∷ ps) [] versions valid next are is = absurd is
-programs-fine places slot start contents (c ∷ cs) before (p ∷ ps) (j ∷ js) [] valid next are is = absurd is
-programs-fine places slot start contents (content ∷ further) before (program ∷ programs) (job ∷ jobs) (own ∷ more) valid next are is =
+programs-fine : HavePlaces → (slot start : ℕ) (programs : List Program) (jobs : List ProgramJob) (versions : List (List (List UnitVersion)))
+    → All IsValidProgramJob jobs → AreReadEach slot start jobs programs → AreAllVersions programs (ratios_of jobs) versions → All (IsFine slot) (program_rows jobs programs versions)
+programs-fine places slot start [] [] [] valid read is = All-nil (IsFine slot)
+programs-fine places slot start [] [] (v ∷ vs) valid read is = absurd is
+programs-fine places slot start [] (j ∷ js) versions valid read is = absurd read
+programs-fine places slot start (p ∷ ps) [] versions valid read is = absurd read
+programs-fine places slot start (p ∷ ps) (j ∷ js) [] valid read is = absurd is
+programs-fine places slot start (program ∷ programs) (job ∷ jobs) (own ∷ more) valid read is =
     All-cons (IsFine slot) (program_row job.weight job.drift program own) (program_rows jobs programs more)
-    (one-fine places slot start contents before job content program own (All-head IsValidProgramJob job jobs valid) next.0
-    (All-head (λ (p : Program). AreBytes p.video) program programs are) is.0)
-    (programs-fine places slot start (contents ++ content ∷ []) further (before ++ program ∷ []) programs jobs more (All-tail IsValidProgramJob job jobs valid) next.1
-    (All-tail (λ (p : Program). AreBytes p.video) program programs are) is.1)
+    (one-fine places slot start job program own (All-head IsValidProgramJob job jobs valid) read.0 is.0)
+    (programs-fine places slot start programs jobs more (All-tail IsValidProgramJob job jobs valid) read.1 is.1)
 
 all-valid : (slot : ℕ) (rows : List ProgramRow) → All (IsFine slot) rows → All (IsValidProgram slot) rows
 all-valid slot rows fine = λ k d within. (fine k d within).valid
@@ -221,34 +213,13 @@ units-fewer (j ∷ js) (p ∷ ps) (v ∷ vs) =
       sum_by-cons (λ (program : Program). length program.units) p ps,
     )
 
--- units of some programs behind others are as many as the limit allows
-units-within : (slot start : ℕ) (contents further : List (List ℕ)) (before programs : List Program) (jobs : List ProgramJob) → units_of_programs before ≤ 4194304
-    → AreNextPrograms slot start contents before jobs further programs → units_of_programs (before ++ programs) ≤ 4194304
-units-within slot start contents [] before [] [] few next = subst (λ (ps : List Program). units_of_programs ps ≤ 4194304) (sym (append-nil before)) few
-units-within slot start contents [] before [] (j ∷ js) few next = absurd next
-units-within slot start contents [] before (p ∷ ps) [] few next = absurd next
-units-within slot start contents [] before (p ∷ ps) (j ∷ js) few next = absurd next
-units-within slot start contents (c ∷ cs) before [] [] few next = absurd next
-units-within slot start contents (c ∷ cs) before [] (j ∷ js) few next = absurd next
-units-within slot start contents (c ∷ cs) before (p ∷ ps) [] few next = absurd next
-units-within slot start contents (content ∷ further) before (program ∷ programs) (job ∷ jobs) few next =
-    let room : units_of_programs before + length program.units ≤ 4194304 = next.0.few_units in
-    let both : units_of_programs (before ++ program ∷ []) ≡ units_of_programs before + units_of_programs (program ∷ []) =
-    sum_by-append (λ (p : Program). length p.units) before (program ∷ []) in
-    let one : units_of_programs (program ∷ []) ≡ length program.units = sum_by-cons (λ (p : Program). length p.units) program [] ∙ add-none (length program.units) in
-    subst (λ (ps : List Program). units_of_programs ps ≤ 4194304) (append_assoc before (program ∷ []) programs)
-    (units-within slot start (contents ++ content ∷ []) further (before ++ program ∷ []) programs jobs (omega (arith, room, both, one)) next.1)
-  where
-    add-none : (n : ℕ) → n + 0 ≡ n
-    add-none n = omega arith
-
 -- ---- the table
 
-pub table-valid : HavePlaces → (job : Job) (contents : List (List ℕ)) (programs : List Program) (table : Table) → IsValidJob job → ArePrograms job contents programs
-    → All (λ program. AreBytes program.video) programs → IsTableOf job programs table → IsValidTable table
-table-valid places job contents programs table valid next are is =
+pub table-valid : HavePlaces → (job : Job) (programs : List Program) (table : Table) → IsValidJob job → AreReadPrograms job programs → IsTableOf job programs table
+    → IsValidTable table
+table-valid places job programs table valid read is =
     let rows : List ProgramRow = program_rows job.programs programs is.versions in
-    let fine : All (IsFine job.slot) rows = programs-fine places job.slot job.start [] contents [] programs job.programs is.versions valid.programs next are is.are_versions in
+    let fine : All (IsFine job.slot) rows = programs-fine places job.slot job.start programs job.programs is.versions valid.programs read.each is.are_versions in
     let fine_table : All (IsFine table.slot) table.programs =
     subst (λ (slot : ℕ). All (IsFine slot) table.programs) (sym is.slot) (subst (λ (rs : List ProgramRow). All (IsFine job.slot) rs) (sym is.rows) fine) in
     let count : length table.programs ≡ length rows = ap (λ (rs : List ProgramRow). length rs) is.rows in
@@ -256,7 +227,7 @@ table-valid places job contents programs table valid next are is =
     let units : length (units_of table) ≡ length (flat_map (λ (row : ProgramRow). row.units) rows) =
     ap (λ (rs : List ProgramRow). length (flat_map (λ (row : ProgramRow). row.units) rs)) is.rows in
     let some : length (flat_map (λ (row : ProgramRow). row.units) rows) ≤ units_of_programs programs = units-fewer job.programs programs is.versions in
-    let most : units_of_programs programs ≤ 4194304 = units-within job.slot job.start [] contents [] programs job.programs (omega arith) next in
+    let most : units_of_programs programs ≤ 4194304 = read.few_units in
     let packets : length (audio_packets_of table) ≤ 536870911 * length table.programs = packets-few table.slot table.programs fine_table in
     let slot : table.slot ≡ job.slot = is.slot in
     let nodes : table.nodes ≡ job.nodes = is.nodes in

@@ -7,11 +7,10 @@ use Rattle.std.proofs.lemmas.List.{length-map, length-take}
 use Rattle.std.proofs.lemmas.List.Elements.{All-cons, All-head, All-map, All-nil, All-tail}
 use Rattle.std.proofs.lemmas.List.Sums.{sum_by-cons}
 use Rattle.bit_lists.specs.Fields.{AreBytes, bit_list}
-use Rattle.bit_lists.proofs.ByteLemmas.{AreBytes-take}
+use Rattle.bit_lists.proofs.ByteLemmas.{AreBytes-take, AreBytes-drop}
 use Rattle.syntax_types.specs.declared.picture.SeqState.{SeqState}
 use Rattle.picture_grammar.specs.Picture.{IsState, MayPrecede}
 use Rattle.picture_laws.proofs.SpelledStates.{state-of_unit}
-use Rattle.picture_reader.proofs.Parts.{are-dropped}
 use Rattle.pes_units.specs.declared.times.Times.{Times}
 use Rattle.pes_units.specs.VideoHeader.{spelled, written_dts, written_pes_header}
 use Rattle.version_table.specs.declared.table.Version.{Version}
@@ -163,7 +162,7 @@ unit-valid : HavePlaces → (slot weight : ℕ) (es coarser : List ℕ) (before 
 unit-valid places slot weight es coarser before unit versions few are may short due is near =
     let count : length versions ≡ suc (length coarser) = versions-many before (bytes_of_unit es unit) coarser versions is in
     let same : length (map (row_version weight unit) versions) ≡ length versions = length-map versions (row_version weight unit) in
-    let bytes : AreBytes (bytes_of_unit es unit) = AreBytes-take (unit.end - unit.begin) (drop unit.begin es) (are-dropped unit.begin es are) in
+    let bytes : AreBytes (bytes_of_unit es unit) = AreBytes-take (unit.end - unit.begin) (drop unit.begin es) (AreBytes-drop unit.begin es are) in
     let by_slots : unit.due ≤ 2147483648 * slot = omega (arith, due) in
     let alone : All (λ version. IsValidVersion (row_version 1 unit version)) versions =
     places before (bytes_of_unit es unit) coarser versions (length (written_pes_header unit.times)) 1 may bytes (bytes-short es unit short) is (header-few unit.times) (omega arith) in
@@ -196,7 +195,7 @@ all-near places weight es coarser before [] [] light are may short is = tt
 all-near places weight es coarser before [] (v ∷ vs) light are may short is = absurd is
 all-near places weight es coarser before (u ∷ us) [] light are may short is = absurd is
 all-near places weight es coarser before (unit ∷ units) (own ∷ more) light are may short (after, leaves, here, rest) =
-    let bytes : AreBytes (bytes_of_unit es unit) = AreBytes-take (unit.end - unit.begin) (drop unit.begin es) (are-dropped unit.begin es are) in
+    let bytes : AreBytes (bytes_of_unit es unit) = AreBytes-take (unit.end - unit.begin) (drop unit.begin es) (AreBytes-drop unit.begin es are) in
     let room : 2609192632320 * weight < 281474976710656 = omega (arith, light) in
     let valid : All (λ version. IsValidVersion (row_version weight unit version)) own =
     places before (bytes_of_unit es unit) coarser own (length (written_pes_header unit.times)) weight may bytes (bytes-short es unit (All-head IsShortUnit unit units short)) here (header-few unit.times) room in (

@@ -1,16 +1,15 @@
 //! What holds of the tables of programs.
-ghost use Rattle.std.specs.Prelude.{◌≡◌, ◌≤◌, ◌<◌, ℕ, List, All, length, sum_by};
+ghost use Rattle.std.specs.Prelude.{◌≡◌, ◌≤◌, ◌<◌, ℕ, List, length, sum_by};
 ghost use Rattle.std.specs.List.{flat_map};
-ghost use Rattle.bit_lists.specs.Fields.{AreBytes};
-ghost use Rattle.job_report.specs.declared.job.Form.{Form};
 ghost use Rattle.job_report.specs.declared.job.Job.{Job};
 ghost use Rattle.job_report.specs.ValidJob.{IsValidJob};
 ghost use Rattle.program_reader.specs.declared.program.Program.{Program};
-ghost use Rattle.program_reader.specs.Programs.{IsProgramOfFile};
 ghost use Rattle.version_table.specs.declared.table.ProgramRow.{ProgramRow};
 ghost use Rattle.version_table.specs.declared.table.Table.{Table};
 ghost use Rattle.version_table.specs.Table.{IsValidProgram, IsValidTable, greatest_distortion};
-ghost use Rattle.job_programs.specs.Programs.{ArePrograms, IsWithinTime};
+ghost use Rattle.program_reader.specs.ReadProgram.{IsReadProgram};
+ghost use Rattle.job_programs.specs.Programs.{IsWithinTime};
+ghost use Rattle.job_programs.specs.Read.{AreReadPrograms};
 ghost use Rattle.job_programs.specs.Share.{KeepsShare};
 ghost use Rattle.program_table.specs.Table.{IsRowOf, IsTableOf};
 
@@ -27,20 +26,19 @@ pub fn one_table()
     one_list_of_versions();
 }
 
-/// Where the files of a valid job hold its programs, their table keeps the limits of tables.
+/// Where the programs of a valid job were read, their table keeps the limits of tables.
 pub fn table_is_valid()
-    ensures { (job : Job) (contents : List (List ℕ)) (programs : List Program) (table : Table) → IsValidJob job → ArePrograms job contents programs
-        → All (λ program. AreBytes program.video) programs → IsTableOf job programs table → IsValidTable table }
+    ensures { (job : Job) (programs : List Program) (table : Table) → IsValidJob job → AreReadPrograms job programs → IsTableOf job programs table
+        → IsValidTable table }
 {
     versions_have_places();
 }
 
-/// Where a file holds a program whose times lie within a slot length's limit, and that takes no more of a table than its share, its row
+/// Where a program was read whose times lie within a slot length's limit, and that takes no more of a table than its share, its row
 /// without drift has a place in a table of such slots.
 pub fn row_is_valid()
-    ensures { (slot start : ℕ) (form : Form) (number weight : ℕ) (content drop coarser : List ℕ) (program : Program) (row : ProgramRow) → weight ≤ WEIGHT_MOST → length coarser ≤ COARSER_MOST
-        → IsProgramOfFile form content number drop start program → IsWithinTime slot program → KeepsShare weight DRIFT_DEFAULT coarser program
-        → AreBytes program.video → IsRowOf program coarser weight DRIFT_DEFAULT row
+    ensures { (slot start weight : ℕ) (coarser : List ℕ) (program : Program) (row : ProgramRow) → weight ≤ WEIGHT_MOST → length coarser ≤ COARSER_MOST
+        → IsReadProgram start program → IsWithinTime slot program → KeepsShare weight DRIFT_DEFAULT coarser program → IsRowOf program coarser weight DRIFT_DEFAULT row
         → IsValidProgram slot row × (length row.units ≤ UNITS_MOST) × (length (flat_map (λ packets. packets) row.audios) < AUDIO_PACKETS_LIMIT)
         × (sum_by greatest_distortion row.units < DISTORTIONS_LIMIT) }
 {

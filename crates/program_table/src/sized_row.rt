@@ -6,15 +6,15 @@ ghost use Rattle.version_source.specs.Sendable.{IsSendable};
 ghost use Rattle.program_table.specs.Table.{IsRowOf};
 ghost use Rattle.program_table.specs.Private.Rows.{AreBounded, CanBeSaid, sized_row, sized_rows};
 
-use crate::program_row::rows_of_audios;
+use crate::audio_rows::rows_of_audios;
 use crate::unit_row::{header_bytes, with_headers};
 use job_report::limits::{DRIFT_MOST, WEIGHT_MOST};
 use list_types::{ListOf, OutOfMemory};
+use program_reader::laws::see_bytes;
 use program_reader::limits::UNIT_WEIGHT_MOST;
 use program_reader::{Program, UnitSizes, UnitSource, unit_weight};
 use std::alloc::Global;
 use version_laws::laws::sizes_are_bounded;
-use version_source::laws::see_bytes;
 use version_table::{ProgramRow, Unit};
 
 /// The row of a program in a table, of the sizes that were told when it was read: each unit with all its versions, whose distortions
@@ -45,7 +45,7 @@ pub fn row_of_sized_program(
 }
 
 /// The rows of units with these sizes.
-fn rows_of_sized_units(
+pub(crate) fn rows_of_sized_units(
     alloc: Global,
     units: &[UnitSource],
     sizes: &[UnitSizes],

@@ -1,7 +1,7 @@
 use job_report::Form;
 use program_maker::make_program;
-use program_reader::{Program, SizedProgram, read_program, read_sized_program};
-use program_table::{row_of_program, row_of_sized_program};
+use program_reader::{Program, SizedProgram, read_sized_program};
+use program_table::row_of_sized_program;
 use std::test::Fail;
 use version_source::laws::programs_can_be_sent;
 use version_table::ProgramRow;
@@ -60,25 +60,6 @@ fn counts(row: &ProgramRow, other: &ProgramRow, times: u64, more: u64) -> bool {
 }
 
 #[test]
-fn a_generated_program(rt: HostRuntime) -> Result<(), Fail> {
-    let file = make_program(rt.alloc(), 1, 12)?;
-    let program = read_program(rt.alloc(), file.as_slice(), Form::Ts, 1, &[], START)?;
-    programs_can_be_sent();
-    let row = row_of_program(rt.alloc(), &program, &RATIOS, 3, 0)?;
-    assert_eq!(rt; (row.units.len(), row.audios.len()), (12, 1));
-    if let [audio] = row.audios.as_slice() {
-        assert_eq!(rt; audio.len(), 80);
-    }
-    assert!(rt; begins_with_sources(&row, &program));
-    let once = row_of_program(rt.alloc(), &program, &RATIOS, 1, 0)?;
-    assert!(rt; counts(&row, &once, 3, 0));
-    // An I picture and eleven P pictures: each counts 3 times 8, and 3 times 6 more for each one behind it.
-    let carried = row_of_program(rt.alloc(), &program, &RATIOS, 3, 6)?;
-    assert!(rt; counts(&carried, &once, 24, 18));
-    Ok(())
-}
-
-#[test]
 fn a_program_that_was_sized_as_it_was_read(rt: HostRuntime) -> Result<(), Fail> {
     let file = make_program(rt.alloc(), 1, 12)?;
     let SizedProgram { program, sizes } = read_sized_program(
@@ -93,11 +74,14 @@ fn a_program_that_was_sized_as_it_was_read(rt: HostRuntime) -> Result<(), Fail> 
     programs_can_be_sent();
     let row = row_of_sized_program(rt.alloc(), &program, sizes.as_slice(), 3, 0)?;
     assert_eq!(rt; (row.units.len(), row.audios.len()), (12, 1));
+    if let [audio] = row.audios.as_slice() {
+        assert_eq!(rt; audio.len(), 80);
+    }
     assert!(rt; begins_with_sources(&row, &program));
-    let other = row_of_program(rt.alloc(), &program, &RATIOS, 3, 0)?;
-    assert!(rt; counts(&row, &other, 1, 0));
+    let once = row_of_sized_program(rt.alloc(), &program, sizes.as_slice(), 1, 0)?;
+    assert!(rt; counts(&row, &once, 3, 0));
+    // An I picture and eleven P pictures: each counts 3 times 8, and 3 times 6 more for each one behind it.
     let carried = row_of_sized_program(rt.alloc(), &program, sizes.as_slice(), 3, 6)?;
-    let once = row_of_program(rt.alloc(), &program, &RATIOS, 1, 0)?;
     assert!(rt; counts(&carried, &once, 24, 18));
     Ok(())
 }

@@ -10,10 +10,7 @@ use Rattle.version_table.specs.declared.table.Unit.{Unit as CodedUnit}
 use Rattle.version_table.specs.Choice.{IsSmallestVersion}
 use Rattle.rate_fit.specs.declared.verdict.Verdict.TheVariants.{Scheduled, Missed, Limit}
 use Rattle.rate_fit.specs.Fit.{IsSlotVerdict, IsWithinSlots, in_slots, end_of_slots}
-
--- a unit in one version
-abbrev unit : (due bytes : ℕ) → CodedUnit
-unit due bytes = record { due = due; versions = record { items = record { bytes = bytes; distortion = 0 } ∷ [] } }
+use Rattle.slot_rule.proofs.RuleEdges.{unit_of as unit}
 
 -- a program without audio
 abbrev table_of : (vbv : ℕ) → List CodedUnit → Table

@@ -97,9 +97,12 @@ run_is_accepted words job out certificate files after line said (work, is, says,
         is_job = record { spells = holds.is_job.spells; apart = fewer_apart job out certificate 0 work.made.job.programs apart };
       };
       programs = record {
-        contents = is.made.programs.contents;
-        held = kept_contents files after job out certificate same 0 work.made.job.programs is.made.programs.contents apart is.made.programs.held;
-        are = is.made.programs.are;
+        read = is.made.programs.read;
+        held = record {
+          contents = is.made.programs.held.contents;
+          held = kept_contents files after job out certificate same 0 work.made.job.programs is.made.programs.held.contents apart is.made.programs.held.held;
+          are = is.made.programs.held.are;
+        };
       };
       table = is.made.table;
     } in

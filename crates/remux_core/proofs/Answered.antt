@@ -6,7 +6,8 @@ use Rattle.command_words.specs.declared.status.Status.{Status}
 use Rattle.command_words.specs.declared.status.Status.TheVariants as statuses
 use Rattle.command_words.specs.Answer.{Answer, EndsWithStatus, Decides, HasCause, AnswerHasCause}
 use Rattle.command_words.specs.Command.{Command, Plan, Gen, Run, Check, Probe, CheckPlan, Impossible, Fit, Audit, IsCommand, IsSaid}
-use Rattle.command_words.specs.Outside.{ShelfFacts, SinkFacts, OnFiles}
+use Rattle.shelf_io.specs.Facts.{ShelfFacts, SinkFacts}
+use Rattle.command_words.specs.Outside.{OnFiles}
 use Rattle.command_words.specs.Status.{IsSameStatus}
 use Rattle.command_words.specs.Task.{OthersStay, no_task}
 use Rattle.command_words.proofs.Contents.{get_other, stays}

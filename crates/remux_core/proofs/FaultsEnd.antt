@@ -5,7 +5,7 @@ use Rattle.command_words.specs.declared.status.Status.{Status}
 use Rattle.command_words.specs.declared.status.Status.TheVariants as statuses
 use Rattle.command_words.specs.Answer.{Answer}
 use Rattle.command_words.specs.Ended.{EndsAtFault, Tells}
-use Rattle.command_words.specs.Outside.{ShelfFacts, SinkFacts}
+use Rattle.shelf_io.specs.Facts.{ShelfFacts, SinkFacts}
 use Rattle.remux_core.specs.Promises.{EndsWith, FaultsEnd}
 
 -- what ended a command ended the run

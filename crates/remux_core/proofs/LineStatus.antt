@@ -6,7 +6,7 @@ use Rattle.command_words.specs.declared.status.CertRefusal.TheVariants.{Syntax, 
 use Rattle.command_words.specs.declared.status.Status.{Status}
 use Rattle.command_words.specs.declared.status.Status.TheVariants as statuses
 use Rattle.command_words.specs.Answer.{HasCause}
-use Rattle.command_words.specs.Outside.{ShelfFacts}
+use Rattle.shelf_io.specs.Facts.{ShelfFacts}
 use Rattle.command_words.specs.Report.{cert_report, refusal_report, miss_report}
 use Rattle.command_words.specs.Status.{TellsStatus}
 use Rattle.command_words.specs.Task.{Task}

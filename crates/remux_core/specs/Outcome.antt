@@ -7,7 +7,8 @@ use Rattle.command_words.specs.declared.status.Status.{Status}
 use Rattle.command_words.specs.declared.status.Status.TheVariants.{WriteFault, OutOfMemory}
 use Rattle.command_words.specs.Answer.{Answer, Decides, AnswerHasCause}
 use Rattle.command_words.specs.Command.{Command, IsSaid}
-use Rattle.command_words.specs.Outside.{ShelfFacts, SinkFacts, OnFiles}
+use Rattle.shelf_io.specs.Facts.{ShelfFacts, SinkFacts}
+use Rattle.command_words.specs.Outside.{OnFiles}
 use Rattle.remux_core.specs.Promises.{Promises}
 use Rattle.remux_core.specs.Tasks.{task_of}
 

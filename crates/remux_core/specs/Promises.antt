@@ -3,7 +3,8 @@ use Rattle.std.specs.Prelude.{◌≡◌, ◌⊎◌, ◌<◌, ◌≤◌}
 use Rattle.shelf_io.specs.Counts.{Rose}
 use Rattle.command_words.specs.declared.status.Status.{Status}
 use Rattle.command_words.specs.declared.status.Status.TheVariants.{ReadFault, WriteFault, Missing, OutOfMemory}
-use Rattle.command_words.specs.Outside.{CountsGrow, ShelfFacts, SinkFacts, OnFiles}
+use Rattle.shelf_io.specs.Facts.{ShelfFacts, SinkFacts}
+use Rattle.command_words.specs.Outside.{CountsGrow, OnFiles}
 use Rattle.command_words.specs.Task.{AsksOnly, OthersStay, Task}
 
 -- no count falls, nothing is read past its limit, and every file that isn't written stays

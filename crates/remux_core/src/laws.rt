@@ -11,7 +11,7 @@ ghost use Rattle.command_words.specs.declared.status.JobRefusal.{JobRefusal};
 ghost use Rattle.command_words.specs.declared.status.Status.{Status as AnyStatus};
 ghost use Rattle.command_words.specs.Answer.{HasCause};
 ghost use Rattle.command_words.specs.Command.{IsPlanCommand, IsGenCommand, IsProbeCommand, IsRunCommand, Command as AnyCommand};
-ghost use Rattle.command_words.specs.Outside.{ShelfFacts};
+ghost use Rattle.shelf_io.specs.Facts.{ShelfFacts};
 ghost use Rattle.command_words.specs.Status.{IsSameStatus, TellsStatus};
 ghost use Rattle.check_command.specs.CheckCommand.{CheckCallsFor};
 ghost use Rattle.check_plan_command.specs.CheckPlanCommand.{CheckPlanCallsFor};

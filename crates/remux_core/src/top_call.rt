@@ -4,7 +4,7 @@ ghost use Rattle.shelf_io.specs.Files.{Files};
 ghost use Rattle.command_words.specs.declared.status.Status.{Status as AnyStatus};
 ghost use Rattle.command_words.specs.Command.{IsCommand};
 ghost use Rattle.command_words.specs.Ended.{answer_of};
-ghost use Rattle.command_words.specs.Outside.{shelf_facts, sink_facts};
+ghost use Rattle.shelf_io.specs.Facts.{shelf_facts, sink_facts};
 ghost use Rattle.command_words.specs.Status.{IsSameStatus};
 ghost use Rattle.remux_core.specs.Outcome.{Outcome, WordsCallFor};
 ghost use Rattle.remux_core.specs.Private.Performed.{PerformsWords};

@@ -57,7 +57,8 @@ over_pairs change none alternate start (pair ∷ pairs) fit =
     ap (λ p. change p (level_from (place + 1) pairs p)) here.place ∙ ap (change place) (level_before (place + 1) place pairs (omega arith)) ∙ none place in
     sum_from-one (λ index. change (scan_place alternate index) (level_from start (pair ∷ pairs) (scan_place alternate index)))
     (λ index. change (scan_place alternate index) (level_from (place + 1) pairs (scan_place alternate index))) 0 64 k (omega arith) (omega (arith, here.index_within))
-    (λ j low high there. ap (change (scan_place alternate j)) (level_there start (scan_place alternate j) pair pairs (λ e. there (sym (are_others alternate j (omega arith)).index ∙ ap (index_of alternate) e))))
+    (λ j low high there. ap (change (scan_place alternate j))
+    (level_there start (scan_place alternate j) pair pairs (λ e. there (sym (are_others alternate j (omega arith)).index ∙ ap (index_of alternate) e))))
     later
     ∙ ap₂ (λ x y. x + y) at_k (over_pairs change none alternate (place + 1) pairs fit.2)
 
@@ -87,10 +88,12 @@ pub block_changes-are : (seq : SeqState) (coding : PicCoding) (kind : Kind) (cod
 block_changes-are seq coding kind code mapped blocks i below fit =
     let block : Block = slice_index_or blocks i no_block in
     let way : BlockWay = block_way coding kind i in
-    sym (over_pairs (block_change seq coding way code mapped) (λ place. sym (none_changed (pos 0) (weight_at seq coding way.intra place) (scale_of coding code) (scale_of coding mapped) way.intra refl))
+    sym (over_pairs (block_change seq coding way code mapped)
+    (λ place. sym (none_changed (pos 0) (weight_at seq coding way.intra place) (scale_of coding code) (scale_of coding mapped) way.intra refl))
     coding.alternate_scan (first_place way) block.pairs.items fit)
     ∙ sum_from-same (λ index. block_change seq coding way code mapped (scan_place coding.alternate_scan index) (level_at way block (scan_place coding.alternate_scan index)))
-    (λ index. squared_difference (coefficient_of_blocks seq coding kind code blocks i index) (coefficient_of_blocks seq coding kind mapped (coarsened_blocks seq coding kind code mapped blocks) i index)) 0 64
+    (λ index. squared_difference (coefficient_of_blocks seq coding kind code blocks i index)
+    (coefficient_of_blocks seq coding kind mapped (coarsened_blocks seq coding kind code mapped blocks) i index)) 0 64
     (λ index low high. ap (squared_difference (coefficient_of_blocks seq coding kind code blocks i index)) (same index))
   where
     same : (index : ℕ) → (let block : Block = slice_index_or blocks i no_block in let way : BlockWay = block_way coding kind i in let place : ℕ = scan_place coding.alternate_scan index in

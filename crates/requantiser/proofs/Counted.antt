@@ -87,8 +87,11 @@ one_more_length lengths number run size bits place at within r s value few some_
         let same_run : run ≡ run' = omega (arith, here, at, r, s, r', s', same_number) in
         let same_size : size ≡ size' = omega (arith, here, at, same_number, same_run) in
         let found : get_or (slice_set lengths place bits) (1024 * number' + 64 * size' + run') 0 ≡ bits =
-        ap (λ n. get_or (slice_set lengths place bits) n 0) here ∙ get_or-set_same lengths place bits 0 within in
-        (found ∙ value ∙ ap (λ n. length_by (table_numbered n) run size) same_number ∙ ap₂ (λ a b. length_by (table_numbered number') a b) same_run same_size, omega (arith, found, few), omega (arith, same_size, some_size))
+        ap (λ n. get_or (slice_set lengths place bits) n 0) here ∙ get_or-set_same lengths place bits 0 within in (
+          found ∙ value ∙ ap (λ n. length_by (table_numbered n) run size) same_number ∙ ap₂ (λ a b. length_by (table_numbered number') a b) same_run same_size,
+          omega (arith, found, few),
+          omega (arith, same_size, some_size),
+        )
     by_place (inr (inl there)) some = subst (λ (v : ℕ). 0 < v → (v ≡ length_by (table_numbered number') run' size') × (v ≤ 42) × (0 < size'))
         (sym (get_or-set_other lengths place (1024 * number' + 64 * size' + run') bits 0 (λ e. absurd (omega (arith, e, there))))) (was number' run' size' r' s') some
     by_place (inr (inr past)) some = subst (λ (v : ℕ). 0 < v → (v ≡ length_by (table_numbered number') run' size') × (v ≤ 42) × (0 < size'))
@@ -205,15 +208,18 @@ first_like_others run size some =
     let both = first_and_last (nat_lt run RUNS) (nat_lt 0 size) (nat_lt size LEVELS_PER_RUN) fits in
     let small_run : run < 32 = ltb-true run RUNS both.0 in
     let small_size : size < 64 = ltb-true size LEVELS_PER_RUN both.1 in
-    alike_but (coefficient_symbol run size) (ne_eqb (64 * run + size) 1 (λ e. absurd (omega (arith, e, some)))) (ne_eqb (64 * run + size) END_OF_BLOCK (λ e. absurd (omega (arith, e, small_run, small_size)))))
+    alike_but (coefficient_symbol run size) (ne_eqb (64 * run + size) 1 (λ e. absurd (omega (arith, e, some))))
+    (ne_eqb (64 * run + size) END_OF_BLOCK (λ e. absurd (omega (arith, e, small_run, small_size)))))
 
 first_length : (run size : ℕ) → 0 < run → length_by CoeffZero run size ≡ length_by CoeffFirst run size
 unfolding code_in dct_coefficients_zero dct_coefficients_first
 first_length run size some = ap (λ (found : Option (List ℕ)). option_map_or (λ code. length code + 1) found (length (code_for CoeffZero ESCAPE) + 18)) (sym (first_like_others run size some))
-    ∙ ap (λ (n : ℕ). option_map_or (λ code. length code + 1) (coefficient_code CoeffFirst run size) (n + 18)) (ap (λ (found : Option (List ℕ)). length (unwrap_or found [])) (sym (alike_but ESCAPE refl refl)))
+    ∙ ap (λ (n : ℕ). option_map_or (λ code. length code + 1) (coefficient_code CoeffFirst run size) (n + 18))
+    (ap (λ (found : Option (List ℕ)). length (unwrap_or found [])) (sym (alike_but ESCAPE refl refl)))
 
 -- the length of a coefficient by the table of its place is that by the table of the place behind the one before
-pub length_at : (way : BlockWay) (next at size : ℕ) → next ≤ at → length_by (table_numbered (table_number way at)) (at - next) size ≡ length_by (table_numbered (table_number way next)) (at - next) size
+pub length_at : (way : BlockWay) (next at size : ℕ) → next ≤ at
+    → length_by (table_numbered (table_number way at)) (at - next) size ≡ length_by (table_numbered (table_number way next)) (at - next) size
 length_at way next at size within = by_place way.intra way.vlc_one (cases_zero next) (cases_zero at)
   where
     by_place : (intra one : Bool) → (next ≡ 0) ⊎ (0 < next) → (at ≡ 0) ⊎ (0 < at)
@@ -309,7 +315,8 @@ tally_as seq coding code m from targets counts k below tally same is = record {
 -- nothing of a block was counted
 module _ (new : ℕ → ℤ → ℤ) (change : ℕ → ℤ → ℕ) (all : List RunLevel) (start : Tally) (place : ℕ) where
   none_of : (intra luma vlc_one : Bool) → let way : BlockWay = record { intra = intra; luma = luma; vlc_one = vlc_one } in
-      place ≡ first_place way → start.next ≡ first_place way → has_none (coarsened_pairs new (first_place way) 0 all) ≡ ((start.next == first_place way) && has_none (coarsened_pairs new place (place - start.next) all))
+      place ≡ first_place way → start.next ≡ first_place way
+      → has_none (coarsened_pairs new (first_place way) 0 all) ≡ ((start.next == first_place way) && has_none (coarsened_pairs new place (place - start.next) all))
   none_of true luma vlc_one at next = subst (λ (n : ℕ). has_none (coarsened_pairs new 1 0 all) ≡ ((n == 1) && has_none (coarsened_pairs new place (place - n) all))) (sym next)
       (subst (λ (p : ℕ). has_none (coarsened_pairs new 1 0 all) ≡ ((1 == 1) && has_none (coarsened_pairs new p (p - 1) all))) (sym at) refl)
   none_of false luma vlc_one at next = subst (λ (n : ℕ). has_none (coarsened_pairs new 0 0 all) ≡ ((n == 0) && has_none (coarsened_pairs new place (place - n) all))) (sym next)

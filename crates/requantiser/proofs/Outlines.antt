@@ -253,7 +253,8 @@ module _ (seq : SeqState) (coding : PicCoding) (inner : Bool) (from : Macroblock
           ap (λ (o : Outline). length (flat_map (written_macroblock coding) (option_to_list (told_by coding from lent o)))) coded,
         );
         coded = ap (λ (o : Outline). is_some (told_by coding from lent o)) (sym coded);
-        head = subst (λ (o : Outline). IfSome (told_by coding from lent o) (λ told. (told.skipped_before ≡ whole.skipped_before) × (told.kind ≡ whole.kind) × (told.code ≡ whole.code) × (told.pattern ≡ whole.pattern)))
+        head = subst (λ (o : Outline). IfSome (told_by coding from lent o)
+            (λ told. (told.skipped_before ≡ whole.skipped_before) × (told.kind ≡ whole.kind) × (told.code ≡ whole.code) × (told.pattern ≡ whole.pattern)))
             (sym coded) (
               ap (λ (m : Macroblock). m.skipped_before) to_is,
               ap (λ (m : Macroblock). m.kind) to_is ∙ ap (λ p. let m : Macroblock = with_pattern coding mapped before.version_code gap p from made in m.kind) patterns,

@@ -10,7 +10,7 @@ use crate::kept_levels::KeptLevels;
 use crate::level::{Coefficient, Rescaling};
 use arrayvec::ArrayVec;
 use quant_math::scan;
-use syntax_types::{BLOCK_PLACES, Block, PicCoding, RunLevel, SeqState};
+use syntax_types::{BLOCK_PLACES, Block, PictureParameters, RunLevel, SeqState};
 
 /// Writes a block under another scale into one that is lent.
 pub fn coarsen_block(
@@ -94,17 +94,17 @@ fn add_level(to: &mut ArrayVec<RunLevel, BLOCK_PLACES>, zeros: u8, level: i16) -
 }
 
 /// The weight of a place of the scan (ISO/IEC 13818-2, 7.3 and 7.4.2.1).
-pub fn weight_at(seq: &SeqState, coding: &PicCoding, intra: bool, place: u8) -> u8
-    requires weights { HasWeights seq.now }
+pub fn weight_at(picture: PictureParameters<'_>, intra: bool, place: u8) -> u8
+    requires weights { HasWeights picture.seq.now }
     requires place { place < BLOCK_PLACES }
-    ensures value { result ≡ weight_at_place seq.now coding.now intra place }
+    ensures value { result ≡ weight_at_place picture.entry.seq.now picture.entry.coding.now intra place }
     ensures weighted { 0 < result }
 {
-    let index = usize::from(scan(coding.alternate_scan, place));
+    let index = usize::from(scan(picture.coding.alternate_scan, place));
     if intra {
-        seq.intra[index]
+        picture.seq.intra[index]
     } else {
-        seq.non_intra[index]
+        picture.seq.non_intra[index]
     }
 }
 

@@ -8,7 +8,7 @@ ghost use Rattle.requantiser.specs.Private.Shapes.{IsSide};
 use crate::cursor::{Found, find_at, start};
 use crate::difference::{Side, difference_of_one, difference_of_two};
 use picture_grammar::grid::{columns, rows};
-use syntax_types::Picture;
+use syntax_types::{Picture, PictureParameters};
 
 /// The sum of the squares of the differences of all coefficients of two pictures with the same macroblocks, but the DC
 /// coefficients of intra blocks.
@@ -41,33 +41,37 @@ fn difference(from: &Picture, to: &Picture, a: Found<'_>, b: Found<'_>) -> u64
         (coefficient_of_macroblock to.now.seq to.now.coding b.entry.code (option_map (λ m. m.now) b.entry.macroblock)) }
     ensures bound { result ≤ 2 ^ 41 }
 {
+    let source = PictureParameters {
+        seq: &from.seq,
+        coding: &from.coding,
+    };
+    let version = PictureParameters {
+        seq: &to.seq,
+        coding: &to.coding,
+    };
     match a.macroblock {
         Some(first) => match b.macroblock {
             Some(second) => difference_of_two(
                 Side {
-                    seq: &from.seq,
-                    coding: &from.coding,
+                    picture: source,
                     code: a.code,
                     macroblock: first,
                 },
                 Side {
-                    seq: &to.seq,
-                    coding: &to.coding,
+                    picture: version,
                     code: b.code,
                     macroblock: second,
                 },
             ),
             None => difference_of_one(Side {
-                seq: &from.seq,
-                coding: &from.coding,
+                picture: source,
                 code: a.code,
                 macroblock: first,
             }),
         },
         None => match b.macroblock {
             Some(second) => difference_of_one(Side {
-                seq: &to.seq,
-                coding: &to.coding,
+                picture: version,
                 code: b.code,
                 macroblock: second,
             }),

@@ -13,7 +13,7 @@ ghost use Rattle.requantiser.specs.Private.Sums.{sum_from};
 use crate::block::weight_at;
 use picture_grammar::stands::block_way;
 use quant_math::{inverse, scale, scan};
-use syntax_types::{BLOCK_PLACES, BLOCKS, Block, BlockWay, Macroblock, PicCoding, SeqState};
+use syntax_types::{BLOCK_PLACES, BLOCKS, Block, BlockWay, Macroblock, PictureParameters};
 
 /// The coefficients of a block that isn't coded.
 const NO_COEFFICIENTS: [i16; BLOCK_PLACES] = [0; BLOCK_PLACES];
@@ -21,8 +21,7 @@ const NO_COEFFICIENTS: [i16; BLOCK_PLACES] = [0; BLOCK_PLACES];
 /// A macroblock that isn't skipped, with what its coefficients depend on.
 #[derive(Clone, Copy)]
 pub struct Side<'a> {
-    pub seq: &'a SeqState,
-    pub coding: &'a PicCoding,
+    pub picture: PictureParameters<'a>,
     /// quantiser_scale_code in force in the macroblock.
     pub code: u8,
     pub macroblock: &'a Macroblock,
@@ -30,10 +29,10 @@ pub struct Side<'a> {
 
 /// The sum of the squares of the differences of two macroblocks' coefficients.
 pub fn difference_of_two(a: Side<'_>, b: Side<'_>) -> u64
-    requires first { IsSide a.seq.now a.code a.macroblock.now }
-    requires second { IsSide b.seq.now b.code b.macroblock.now }
-    ensures value { result ≡ difference_of (coefficient_of_macroblock a.entry.seq.now a.entry.coding.now a.entry.code (Option.Some a.entry.macroblock.now))
-        (coefficient_of_macroblock b.entry.seq.now b.entry.coding.now b.entry.code (Option.Some b.entry.macroblock.now)) }
+    requires first { IsSide a.picture.seq.now a.code a.macroblock.now }
+    requires second { IsSide b.picture.seq.now b.code b.macroblock.now }
+    ensures value { result ≡ difference_of (coefficient_of_macroblock a.entry.picture.seq.now a.entry.picture.coding.now a.entry.code (Option.Some a.entry.macroblock.now))
+        (coefficient_of_macroblock b.entry.picture.seq.now b.entry.picture.coding.now b.entry.code (Option.Some b.entry.macroblock.now)) }
     ensures bound { result ≤ 2 ^ 41 }
 {
     let mut sum = 0;
@@ -45,18 +44,18 @@ pub fn difference_of_two(a: Side<'_>, b: Side<'_>) -> u64
 
 /// The sum of the squares of the differences of two macroblocks' coefficients in one of the blocks.
 fn difference_in_block(a: Side<'_>, b: Side<'_>, i: usize) -> u64
-    requires first { IsSide a.seq.now a.code a.macroblock.now }
-    requires second { IsSide b.seq.now b.code b.macroblock.now }
+    requires first { IsSide a.picture.seq.now a.code a.macroblock.now }
+    requires second { IsSide b.picture.seq.now b.code b.macroblock.now }
     requires block { i < BLOCKS }
-    ensures value { result ≡ sum_from (λ place. squared_difference (coefficient_of_macroblock a.entry.seq.now a.entry.coding.now a.entry.code (Option.Some a.entry.macroblock.now) i place)
-        (coefficient_of_macroblock b.entry.seq.now b.entry.coding.now b.entry.code (Option.Some b.entry.macroblock.now) i place)) 0 BLOCK_PLACES }
+    ensures value { result ≡ sum_from (λ place. squared_difference (coefficient_of_macroblock a.entry.picture.seq.now a.entry.picture.coding.now a.entry.code (Option.Some a.entry.macroblock.now) i place)
+        (coefficient_of_macroblock b.entry.picture.seq.now b.entry.picture.coding.now b.entry.code (Option.Some b.entry.macroblock.now) i place)) 0 BLOCK_PLACES }
     ensures bound { result ≤ 2 ^ 38 }
 {
     if is_empty(a.macroblock, i) && is_empty(b.macroblock, i) {
         return 0;
     }
-    let first = block_coefficients(a.seq, a.coding, a.code, a.macroblock, i);
-    let second = block_coefficients(b.seq, b.coding, b.code, b.macroblock, i);
+    let first = block_coefficients(a.picture, a.code, a.macroblock, i);
+    let second = block_coefficients(b.picture, b.code, b.macroblock, i);
     squared_differences(&first, &second)
 }
 
@@ -77,13 +76,13 @@ fn is_empty_of(block: &Block) -> bool
 
 /// The sum of the squares of the coefficients of a macroblock, where the other one is skipped.
 pub fn difference_of_one(a: Side<'_>) -> u64
-    requires { IsSide a.seq.now a.code a.macroblock.now }
-    ensures value { result ≡ difference_of (coefficient_of_macroblock a.entry.seq.now a.entry.coding.now a.entry.code (Option.Some a.entry.macroblock.now)) (λ i index. pos 0) }
+    requires { IsSide a.picture.seq.now a.code a.macroblock.now }
+    ensures value { result ≡ difference_of (coefficient_of_macroblock a.entry.picture.seq.now a.entry.picture.coding.now a.entry.code (Option.Some a.entry.macroblock.now)) (λ i index. pos 0) }
     ensures bound { result ≤ 2 ^ 41 }
 {
     let mut sum = 0;
     for i in 0..BLOCKS {
-        let coefficients = block_coefficients(a.seq, a.coding, a.code, a.macroblock, i);
+        let coefficients = block_coefficients(a.picture, a.code, a.macroblock, i);
         sum += squared_differences(&coefficients, &NO_COEFFICIENTS);
     }
     sum
@@ -91,41 +90,39 @@ pub fn difference_of_one(a: Side<'_>) -> u64
 
 /// The coefficients of a macroblock in one of its blocks, by raster index.
 fn block_coefficients(
-    seq: &SeqState,
-    coding: &PicCoding,
+    picture: PictureParameters<'_>,
     code: u8,
     macroblock: &Macroblock,
     i: usize,
 ) -> [i16; BLOCK_PLACES]
-    requires side { IsSide seq.now code macroblock.now }
+    requires side { IsSide picture.seq.now code macroblock.now }
     requires block { i < BLOCKS }
-    ensures value { (index : ℕ) → index < BLOCK_PLACES → slice_index_or result index (pos 0) ≡ coefficient_of_macroblock seq.now coding.now code (Option.Some macroblock.now) i index }
+    ensures value { (index : ℕ) → index < BLOCK_PLACES → slice_index_or result index (pos 0) ≡ coefficient_of_macroblock picture.entry.seq.now picture.entry.coding.now code (Option.Some macroblock.now) i index }
     ensures small { AreCoefficients result }
 {
-    let way = block_way(coding, macroblock.kind, i);
-    coefficients_of(seq, coding, way, code, &macroblock.blocks[i])
+    let way = block_way(picture.coding, macroblock.kind, i);
+    coefficients_of(picture, way, code, &macroblock.blocks[i])
 }
 
 /// The coefficients of a block by raster index, but the DC coefficient of an intra block (ISO/IEC 13818-2, 7.3 and 7.4.2).
 fn coefficients_of(
-    seq: &SeqState,
-    coding: &PicCoding,
+    picture: PictureParameters<'_>,
     way: BlockWay,
     code: u8,
     block: &Block,
 ) -> [i16; BLOCK_PLACES]
-    requires weights { HasWeights seq.now }
+    requires weights { HasWeights picture.seq.now }
     requires code { IsCode code }
     requires fits { FitBlock (first_place way) block.now.pairs.items }
-    ensures value { (index : ℕ) → index < BLOCK_PLACES → slice_index_or result index (pos 0) ≡ coefficient_at seq.now coding.now way code block.now (scan_place coding.now.alternate_scan index) }
+    ensures value { (index : ℕ) → index < BLOCK_PLACES → slice_index_or result index (pos 0) ≡ coefficient_at picture.entry.seq.now picture.entry.coding.now way code block.now (scan_place picture.entry.coding.now.alternate_scan index) }
     ensures small { AreCoefficients result }
 {
     let mut coefficients = [0; BLOCK_PLACES];
     let mut place = u8::from(way.intra);
     for pair in block.pairs.as_slice() {
         let at = place + pair.run;
-        let index = usize::from(scan(coding.alternate_scan, at));
-        coefficients[index] = coefficient_of(seq, coding, way, code, at, pair.level);
+        let index = usize::from(scan(picture.coding.alternate_scan, at));
+        coefficients[index] = coefficient_of(picture, way, code, at, pair.level);
         place = at + 1;
     }
     coefficients
@@ -133,21 +130,25 @@ fn coefficients_of(
 
 /// The coefficient of a level at a place of the scan.
 fn coefficient_of(
-    seq: &SeqState,
-    coding: &PicCoding,
+    picture: PictureParameters<'_>,
     way: BlockWay,
     code: u8,
     place: u8,
     level: i16,
 ) -> i16
-    requires weights { HasWeights seq.now }
+    requires weights { HasWeights picture.seq.now }
     requires code { IsCode code }
     requires place { place < BLOCK_PLACES }
     ensures small { unsigned_abs result ≤ unsigned_abs LEAST_COEFFICIENT }
-    ensures value { result ≡ coefficient_of_level level (weight_at_place seq.now coding.now way.intra place) (scale_of coding.now code) way.intra }
+    ensures value { result ≡ coefficient_of_level level (weight_at_place picture.entry.seq.now picture.entry.coding.now way.intra place) (scale_of picture.entry.coding.now code) way.intra }
 {
-    let weight = weight_at(seq, coding, way.intra, place);
-    inverse(level, weight, scale(coding.q_scale_type, code), way.intra)
+    let weight = weight_at(picture, way.intra, place);
+    inverse(
+        level,
+        weight,
+        scale(picture.coding.q_scale_type, code),
+        way.intra,
+    )
 }
 
 /// The sum of the squares of the differences.

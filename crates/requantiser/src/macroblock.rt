@@ -17,26 +17,25 @@ use arrayvec::ArrayVec;
 use picture_grammar::stands::{has_dct_type, is_coded};
 use quant_math::scale;
 use syntax_types::{
-    BLOCKS, Block, Kind, Macroblock, PicCoding, RunLevel, SeqState, VECTORS_MOST, Vector,
+    BLOCKS, Block, Kind, Macroblock, PicCoding, PictureParameters, RunLevel, VECTORS_MOST, Vector,
 };
 
 /// Writes the blocks that stand in the coarser picture for those of a macroblock, and says whether it is coded there, and
 /// not skipped. Where all would be emptied in one that isn't skipped, one coefficient is kept.
 pub fn make_blocks(
     levels: &mut KeptLevels,
-    seq: &SeqState,
-    coding: &PicCoding,
+    picture: PictureParameters<'_>,
     codes: Codes,
     inner: bool,
     from: &Macroblock,
     to: &mut [Block; BLOCKS],
 ) -> bool
-    requires weights { HasWeights seq.now }
+    requires weights { HasWeights picture.seq.now }
     requires shape { HasShape from.now }
     requires measured { IsMeasured from.now }
-    ensures { (if result then Option.Some to.new else Option.None) ≡ made_blocks seq.now coding.now inner codes.in_force codes.mapped from.now }
+    ensures { (if result then Option.Some to.new else Option.None) ≡ made_blocks picture.entry.seq.now picture.entry.coding.now inner codes.in_force codes.mapped from.now }
 {
-    coarsen_blocks(levels, seq, coding, codes, from, to);
+    coarsen_blocks(levels, picture, codes, from, to);
     if !is_emptied(from.kind, to) {
         return true;
     }
@@ -50,26 +49,25 @@ pub fn make_blocks(
 /// Writes the blocks of a macroblock under another code.
 fn coarsen_blocks(
     levels: &mut KeptLevels,
-    seq: &SeqState,
-    coding: &PicCoding,
+    picture: PictureParameters<'_>,
     codes: Codes,
     from: &Macroblock,
     to: &mut [Block; BLOCKS],
 )
-    requires weights { HasWeights seq.now }
+    requires weights { HasWeights picture.seq.now }
     requires shape { HasShape from.now }
     requires measured { IsMeasured from.now }
-    ensures { to.new ≡ coarsened_blocks seq.now coding.now from.now.kind codes.in_force codes.mapped from.now.blocks }
+    ensures { to.new ≡ coarsened_blocks picture.entry.seq.now picture.entry.coding.now from.now.kind codes.in_force codes.mapped from.now.blocks }
 {
-    let in_force = scale(coding.q_scale_type, codes.in_force);
-    let mapped = scale(coding.q_scale_type, codes.mapped);
+    let in_force = scale(picture.coding.q_scale_type, codes.in_force);
+    let mapped = scale(picture.coding.q_scale_type, codes.mapped);
     let rescaling = Rescaling {
-        alternate: coding.alternate_scan,
+        alternate: picture.coding.alternate_scan,
         intra: from.kind.intra,
         from: in_force,
         to: mapped,
     };
-    let weights = matrix(seq, from.kind.intra);
+    let weights = matrix(picture.seq, from.kind.intra);
     for i in 0..BLOCKS {
         coarsen_block(levels, weights, rescaling, &from.blocks[i], &mut to[i]);
     }

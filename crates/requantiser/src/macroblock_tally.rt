@@ -21,34 +21,33 @@ use crate::tally::{Tally, VERSIONS_AT_ONCE, add_block};
 use crate::targets::Targets;
 use picture_grammar::stands::block_way;
 use quant_math::scale;
-use syntax_types::{BLOCKS, Block, BlockWay, Macroblock, PicCoding, SeqState};
+use syntax_types::{BLOCKS, Block, BlockWay, Macroblock, PictureParameters};
 
 /// Counts the coefficients of a macroblock that some bits spell, before which this code is in force, in the version at each
 /// of these ratios, in sixteenths and in their order. It gives the code that is in force in the macroblock.
 pub fn tally_macroblock(
-    seq: &SeqState,
-    coding: &PicCoding,
+    picture: PictureParameters<'_>,
     before: u8,
     ratios: &[u16],
     from: &Macroblock,
     tallies: &mut [Tally; VERSIONS_AT_ONCE],
     ladder: &mut Ladder,
 ) -> u8
-    requires weights { HasWeights seq.now }
+    requires weights { HasWeights picture.seq.now }
     requires before { IsCode before }
-    requires spelled { IsSpelledMacroblock coding.now from.now }
+    requires spelled { IsSpelledMacroblock picture.coding.now from.now }
     requires few { length ratios.now ≤ VERSIONS_AT_ONCE }
     ensures code { result ≡ unwrap_or from.now.code before }
     ensures is_code { IsCode result }
-    ensures tallies { (k : ℕ) (d : TallyOf) → k < length ratios.now → IsTallyOf seq.now coding.now (unwrap_or from.now.code before) (slice_index ratios.now k) from.now (slice_index_or tallies.new k d) }
+    ensures tallies { (k : ℕ) (d : TallyOf) → k < length ratios.now → IsTallyOf picture.entry.seq.now picture.entry.coding.now (unwrap_or from.now.code before) (slice_index ratios.now k) from.now (slice_index_or tallies.new k d) }
 {
     let code = code_in_force(from.code, before);
     if ratios.is_empty() {
         return code;
     }
-    let targets = ladder.targets.of(coding.q_scale_type, code, ratios);
+    let targets = ladder.targets.of(picture.coding.q_scale_type, code, ratios);
     let mut counts = Counts::new(from.kind.intra);
-    add_blocks(seq, coding, code, from, &targets, &mut counts, ladder);
+    add_blocks(picture, code, from, &targets, &mut counts, ladder);
     write_tallies(&targets, &counts, ratios.len(), tallies);
     code
 }
@@ -72,40 +71,29 @@ fn write_tallies(
 
 /// Counts the blocks of a macroblock in all versions.
 fn add_blocks(
-    seq: &SeqState,
-    coding: &PicCoding,
+    picture: PictureParameters<'_>,
     code: u8,
     from: &Macroblock,
     targets: &Targets,
     counts: &mut Counts,
     ladder: &mut Ladder,
 )
-    requires weights { HasWeights seq.now }
+    requires weights { HasWeights picture.seq.now }
     requires code { IsCode code }
     requires shape { HasShape from.now }
     requires measured { IsMeasured from.now }
-    requires start { EachIs (IsStart coding.now from.now.kind.intra) targets.now counts.old }
-    ensures { EachWent (AreBlocksTallied seq.now coding.now from.now.kind code from.now.blocks 6) targets.now counts.old counts.new }
+    requires start { EachIs (IsStart picture.coding.now from.now.kind.intra) targets.now counts.old }
+    ensures { EachWent (AreBlocksTallied picture.entry.seq.now picture.entry.coding.now from.now.kind code from.now.blocks 6) targets.now counts.old counts.new }
 {
     for i in 0..BLOCKS {
-        let way = block_way(coding, from.kind, i);
-        add_block_of(
-            seq,
-            coding,
-            way,
-            code,
-            &from.blocks[i],
-            targets,
-            counts,
-            ladder,
-        );
+        let way = block_way(picture.coding, from.kind, i);
+        add_block_of(picture, way, code, &from.blocks[i], targets, counts, ladder);
     }
 }
 
 /// Counts a block under this code in all versions.
 fn add_block_of(
-    seq: &SeqState,
-    coding: &PicCoding,
+    picture: PictureParameters<'_>,
     way: BlockWay,
     code: u8,
     block: &Block,
@@ -113,22 +101,22 @@ fn add_block_of(
     counts: &mut Counts,
     ladder: &mut Ladder,
 )
-    requires weights { HasWeights seq.now }
+    requires weights { HasWeights picture.seq.now }
     requires code { IsCode code }
     requires places { FitBlock (first_place way) block.now.pairs.items }
     requires room { EachIs (StartsBlock way) targets.now counts.old }
-    ensures { EachWent (λ before behind. before.target.scale ≡ scale_of coding.now before.target.code →
-        IsBlockTallied way (new_level seq.now coding.now way code before.target.code) (block_change seq.now coding.now way code before.target.code) block.now.pairs.items before behind)
+    ensures { EachWent (λ before behind. before.target.scale ≡ scale_of picture.entry.coding.now before.target.code →
+        IsBlockTallied way (new_level picture.entry.seq.now picture.entry.coding.now way code before.target.code) (block_change picture.entry.seq.now picture.entry.coding.now way code before.target.code) block.now.pairs.items before behind)
         targets.now counts.old counts.new }
 {
-    let from = scale(coding.q_scale_type, code);
+    let from = scale(picture.coding.q_scale_type, code);
     let rescaling = Rescaling {
-        alternate: coding.alternate_scan,
+        alternate: picture.coding.alternate_scan,
         intra: way.intra,
         from,
         to: from,
     };
-    let weights = matrix(seq, way.intra);
+    let weights = matrix(picture.seq, way.intra);
     add_block(
         counts,
         targets,

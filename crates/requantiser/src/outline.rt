@@ -16,7 +16,7 @@ use crate::step::{coarsen_macroblock, code_in_force};
 use crate::tally::Tally;
 use crate::version_room::VersionRoom;
 use crate::version_state::VersionState;
-use syntax_types::{Kind, Macroblock, PicCoding, SeqState};
+use syntax_types::{Kind, Macroblock, PictureParameters};
 
 /// What becomes of a macroblock in a version in which its coefficients were counted.
 #[derive(Clone, Copy)]
@@ -44,19 +44,18 @@ pub struct Outlined {
 /// goes on as with `coarsen_macroblock`. Only in the one case where a coefficient is kept, which takes as long as that,
 /// the macroblock is written, into room that is lent.
 pub fn outline_macroblock(
-    seq: &SeqState,
-    coding: &PicCoding,
+    picture: PictureParameters<'_>,
     inner: bool,
     tally: Tally,
     state: &mut VersionState,
     from: &Macroblock,
     to: &mut VersionRoom,
 ) -> Outlined
-    requires weights { HasWeights seq.now }
-    requires spelled { IsSpelledMacroblock coding.now from.now }
+    requires weights { HasWeights picture.seq.now }
+    requires spelled { IsSpelledMacroblock picture.coding.now from.now }
     requires room { state.old.skipped + from.now.skipped_before < u16.MAX }
-    requires tally { IsTallyOf seq.now coding.now (unwrap_or from.now.code state.old.source_code) state.old.m from.now tally }
-    ensures outlined { IsOutlined seq.now coding.now inner from.now state.old state.new result to.new.macroblock }
+    requires tally { IsTallyOf picture.seq.now picture.coding.now (unwrap_or from.now.code state.old.source_code) state.old.m from.now tally }
+    ensures outlined { IsOutlined picture.entry.seq.now picture.entry.coding.now inner from.now state.old state.new result to.new.macroblock }
     ensures few { result.bits ≤ 2 ^ 15 }
     ensures small { result.distortion ≤ 2 ^ 41 }
 {
@@ -70,7 +69,7 @@ pub fn outline_macroblock(
                 distortion: tally.distortion,
             };
         }
-        let made = coarsen_macroblock(seq, coding, inner, state, from, to);
+        let made = coarsen_macroblock(picture, inner, state, from, to);
         return Outlined {
             outline: whole(made.coded),
             bits: 0,

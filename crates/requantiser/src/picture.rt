@@ -12,7 +12,7 @@ ghost use Rattle.requantiser.specs.Private.Walk.{coarsened_slice};
 use crate::slice::coarsen_slice;
 use picture_heads::{NO_DELAY, without_delay};
 use std::alloc::Global;
-use syntax_types::{ListOf, OutOfMemory, PicCoding, Picture, SeqState, Slice};
+use syntax_types::{ListOf, OutOfMemory, PicCoding, Picture, PictureParameters, Slice};
 
 /// The version of a lawful picture at `m` sixteenths.
 pub fn coarsen(alloc: Global, picture: &Picture, m: u16) -> Result<Picture, OutOfMemory>
@@ -41,26 +41,29 @@ fn coarsen_slices(alloc: Global, picture: &Picture, m: u16) -> Result<ListOf<Sli
     ensures { IfOk result (λ slices. AllZip (IsCoarserSlice picture.now.seq picture.now.coding m) picture.now.slices slices) }
 {
     let slices = picture.slices.as_slice();
-    let made = walk_slices(alloc, &picture.seq, &picture.coding, m, slices)?;
+    let parameters = PictureParameters {
+        seq: &picture.seq,
+        coding: &picture.coding,
+    };
+    let made = walk_slices(alloc, parameters, m, slices)?;
     Ok(made)
 }
 
 /// The slices of a version, by the walk.
 fn walk_slices(
     alloc: Global,
-    seq: &SeqState,
-    coding: &PicCoding,
+    picture: PictureParameters<'_>,
     m: u16,
     slices: &[Slice],
 ) -> Result<ListOf<Slice>, OutOfMemory>
-    requires weights { HasWeights seq.now }
-    requires few { columns seq.now ≤ u16.MAX }
-    requires walkable { AllByRecursion (IsWalkableSlice (columns seq.now)) slices.now }
-    ensures { IfOk result (λ made. made ≡ map (coarsened_slice seq.now coding.now m) slices.now) }
+    requires weights { HasWeights picture.seq.now }
+    requires few { columns picture.seq.now ≤ u16.MAX }
+    requires walkable { AllByRecursion (IsWalkableSlice (columns picture.seq.now)) slices.now }
+    ensures { IfOk result (λ made. made ≡ map (coarsened_slice picture.entry.seq.now picture.entry.coding.now m) slices.now) }
 {
     let mut made = ListOf::new(alloc);
     for slice in slices {
-        made.push(coarsen_slice(alloc, seq, coding, m, slice)?)?;
+        made.push(coarsen_slice(alloc, picture, m, slice)?)?;
     }
     Ok(made)
 }

@@ -14,26 +14,24 @@ use crate::version_state::VersionState;
 use arrayvec::ArrayVec;
 use std::alloc::Global;
 use syntax_types::{
-    Block, FRAME_BASED, Kind, ListOf, Macroblock, OutOfMemory, PicCoding, SeqState, Slice,
-    SliceInfo,
+    Block, FRAME_BASED, Kind, ListOf, Macroblock, OutOfMemory, PictureParameters, Slice, SliceInfo,
 };
 
 /// The slice of the version at `m` sixteenths.
 pub fn coarsen_slice(
     alloc: Global,
-    seq: &SeqState,
-    coding: &PicCoding,
+    picture: PictureParameters<'_>,
     m: u16,
     slice: &Slice,
 ) -> Result<Slice, OutOfMemory>
-    requires weights { HasWeights seq.now }
+    requires weights { HasWeights picture.seq.now }
     requires code { IsCode slice.now.code }
     requires walkable { AreWalkable slice.now.macroblocks }
     requires room { end_column slice.now ≤ u16.MAX }
-    ensures { IfOk result (λ made. made ≡ coarsened_slice seq.now coding.now m slice.now) }
+    ensures { IfOk result (λ made. made ≡ coarsened_slice picture.entry.seq.now picture.entry.coding.now m slice.now) }
 {
-    let state = VersionState::new(coding, m, slice.code);
-    let macroblocks = coarsen_macroblocks(alloc, seq, coding, state, slice.macroblocks.as_slice())?;
+    let state = VersionState::new(picture.coding, m, slice.code);
+    let macroblocks = coarsen_macroblocks(alloc, picture, state, slice.macroblocks.as_slice())?;
     let info = copy_info(alloc, &slice.info)?;
     Ok(Slice {
         row: slice.row,
@@ -46,15 +44,14 @@ pub fn coarsen_slice(
 /// What becomes of the macroblocks of a slice, from the state at its start.
 fn coarsen_macroblocks(
     alloc: Global,
-    seq: &SeqState,
-    coding: &PicCoding,
+    picture: PictureParameters<'_>,
     start: VersionState,
     macroblocks: &[Macroblock],
 ) -> Result<ListOf<Macroblock>, OutOfMemory>
-    requires weights { HasWeights seq.now }
+    requires weights { HasWeights picture.seq.now }
     requires walkable { AreWalkable macroblocks.now }
     requires room { start.skipped + sum_by (λ m. m.skipped_before + 1) macroblocks.now ≤ u16.MAX }
-    ensures { IfOk result (λ made. made ≡ coarsened_macroblocks seq.now coding.now start.m true start.source_code start.version_code start.skipped macroblocks.now) }
+    ensures { IfOk result (λ made. made ≡ coarsened_macroblocks picture.entry.seq.now picture.entry.coding.now start.m true start.source_code start.version_code start.skipped macroblocks.now) }
 {
     let mut made = ListOf::new(alloc);
     let mut state = start;
@@ -63,8 +60,7 @@ fn coarsen_macroblocks(
         let inner = is_inner(i, macroblocks.len());
         add_macroblock(
             &mut levels,
-            seq,
-            coding,
+            picture,
             inner,
             &mut state,
             &macroblocks[i],
@@ -85,23 +81,22 @@ fn is_inner(i: usize, count: usize) -> bool
 /// Adds what becomes of a macroblock, if it isn't skipped.
 fn add_macroblock(
     levels: &mut KeptLevels,
-    seq: &SeqState,
-    coding: &PicCoding,
+    picture: PictureParameters<'_>,
     inner: bool,
     state: &mut VersionState,
     from: &Macroblock,
     made: &mut ListOf<Macroblock>,
 ) -> Result<(), OutOfMemory>
-    requires weights { HasWeights seq.now }
+    requires weights { HasWeights picture.seq.now }
     requires walkable { IsWalkable from.now }
     requires room { state.old.skipped + from.now.skipped_before < u16.MAX }
-    ensures made { OnOk result (made.new ≡ made.old ++ option_to_list (coarsened_macroblock seq.now coding.now state.old.m inner
+    ensures made { OnOk result (made.new ≡ made.old ++ option_to_list (coarsened_macroblock picture.entry.seq.now picture.entry.coding.now state.old.m inner
         (unwrap_or from.now.code state.old.source_code) state.old.version_code (state.old.skipped + from.now.skipped_before) from.now)) }
-    ensures behind { IsStateBehind from.now (coarsened_macroblock seq.now coding.now state.old.m inner
+    ensures behind { IsStateBehind from.now (coarsened_macroblock picture.entry.seq.now picture.entry.coding.now state.old.m inner
         (unwrap_or from.now.code state.old.source_code) state.old.version_code (state.old.skipped + from.now.skipped_before) from.now) state.old state.new }
 {
     let mut to = Macroblock::empty();
-    let coded = step(levels, seq, coding, inner, state, from, &mut to);
+    let coded = step(levels, picture, inner, state, from, &mut to);
     if coded {
         made.push(to)?;
     }

@@ -14,7 +14,7 @@ use crate::macroblock::{make_blocks, write_head};
 use crate::version_room::VersionRoom;
 use crate::version_state::VersionState;
 use quant_math::{LAST_CODE, WHOLE_RATIO, map_code};
-use syntax_types::{Macroblock, PicCoding, SeqState};
+use syntax_types::{Macroblock, PictureParameters};
 
 /// What became of a macroblock in a version.
 #[derive(Clone, Copy)]
@@ -29,55 +29,51 @@ pub struct Coarsened {
 /// in the version, the macroblock there says nothing. An inner macroblock is neither the first nor the last one of its slice
 /// that isn't skipped. All skipped macroblocks of a row fit their number.
 pub fn coarsen_macroblock(
-    seq: &SeqState,
-    coding: &PicCoding,
+    picture: PictureParameters<'_>,
     inner: bool,
     state: &mut VersionState,
     from: &Macroblock,
     to: &mut VersionRoom,
 ) -> Coarsened
-    requires weights { HasWeights seq.now }
-    requires spelled { IsSpelledMacroblock coding.now from.now }
+    requires weights { HasWeights picture.seq.now }
+    requires spelled { IsSpelledMacroblock picture.coding.now from.now }
     requires room { state.old.skipped + from.now.skipped_before < u16.MAX }
-    ensures at { IsCoarserAt seq.now coding.now state.old.m inner state.old.source_code state.old.version_code (Option.Some from.now) (made_of result.coded to.new.macroblock) }
+    ensures at { IsCoarserAt picture.entry.seq.now picture.entry.coding.now state.old.m inner state.old.source_code state.old.version_code (Option.Some from.now) (made_of result.coded to.new.macroblock) }
     ensures behind { IsStateBehind from.now (made_of result.coded to.new.macroblock) state.old state.new }
-    ensures distortion { result.distortion ≡ difference_of (coefficient_of_macroblock seq.now coding.now state.new.source_code (Option.Some from.now))
-        (coefficient_of_macroblock seq.now coding.now state.new.version_code (made_of result.coded to.new.macroblock)) }
+    ensures distortion { result.distortion ≡ difference_of (coefficient_of_macroblock picture.entry.seq.now picture.entry.coding.now state.new.source_code (Option.Some from.now))
+        (coefficient_of_macroblock picture.entry.seq.now picture.entry.coding.now state.new.version_code (made_of result.coded to.new.macroblock)) }
     ensures bound { result.distortion ≤ 2 ^ 41 }
 {
     let coded = step(
         &mut to.levels,
-        seq,
-        coding,
+        picture,
         inner,
         state,
         from,
         &mut to.macroblock,
     );
-    let distortion = distortion_of(seq, coding, *state, from, coded, &to.macroblock);
+    let distortion = distortion_of(picture, *state, from, coded, &to.macroblock);
     Coarsened { coded, distortion }
 }
 
 /// Writes what becomes of a macroblock as `coarsen_macroblock` does, and says whether it is coded in the version, and not
 /// skipped. Its distortion isn't added up.
 pub fn requantise_macroblock(
-    seq: &SeqState,
-    coding: &PicCoding,
+    picture: PictureParameters<'_>,
     inner: bool,
     state: &mut VersionState,
     from: &Macroblock,
     to: &mut VersionRoom,
 ) -> bool
-    requires weights { HasWeights seq.now }
-    requires spelled { IsSpelledMacroblock coding.now from.now }
+    requires weights { HasWeights picture.seq.now }
+    requires spelled { IsSpelledMacroblock picture.coding.now from.now }
     requires room { state.old.skipped + from.now.skipped_before < u16.MAX }
-    ensures at { IsCoarserAt seq.now coding.now state.old.m inner state.old.source_code state.old.version_code (Option.Some from.now) (made_of result to.new.macroblock) }
+    ensures at { IsCoarserAt picture.entry.seq.now picture.entry.coding.now state.old.m inner state.old.source_code state.old.version_code (Option.Some from.now) (made_of result to.new.macroblock) }
     ensures behind { IsStateBehind from.now (made_of result to.new.macroblock) state.old state.new }
 {
     step(
         &mut to.levels,
-        seq,
-        coding,
+        picture,
         inner,
         state,
         from,
@@ -88,38 +84,44 @@ pub fn requantise_macroblock(
 /// The same of a macroblock of the right shape, by the walk.
 pub fn step(
     levels: &mut KeptLevels,
-    seq: &SeqState,
-    coding: &PicCoding,
+    picture: PictureParameters<'_>,
     inner: bool,
     state: &mut VersionState,
     from: &Macroblock,
     to: &mut Macroblock,
 ) -> bool
-    requires weights { HasWeights seq.now }
+    requires weights { HasWeights picture.seq.now }
     requires shape { HasShape from.now }
     requires measured { IsMeasured from.now }
     requires room { state.old.skipped + from.now.skipped_before < u16.MAX }
-    ensures made { (if result then Option.Some to.new else Option.None) ≡ coarsened_macroblock seq.now coding.now state.old.m inner
+    ensures made { (if result then Option.Some to.new else Option.None) ≡ coarsened_macroblock picture.entry.seq.now picture.entry.coding.now state.old.m inner
         (unwrap_or from.now.code state.old.source_code) state.old.version_code (state.old.skipped + from.now.skipped_before) from.now }
     ensures ratio { state.new.m ≡ state.old.m }
     ensures source_code { state.new.source_code ≡ unwrap_or from.now.code state.old.source_code }
     ensures version_code { state.new.version_code ≡ (if result then unwrap_or to.new.code state.old.version_code else state.old.version_code) }
     ensures skipped { state.new.skipped ≡ (if result then 0 else state.old.skipped + from.now.skipped_before + 1) }
     ensures placed { result ≡ true → to.new.skipped_before ≡ state.old.skipped + from.now.skipped_before }
-    ensures source { IsSide seq.now state.new.source_code from.now }
-    ensures version { result ≡ true → IsSide seq.now state.new.version_code to.new }
+    ensures source { IsSide picture.entry.seq.now state.new.source_code from.now }
+    ensures version { result ≡ true → IsSide picture.entry.seq.now state.new.version_code to.new }
 {
     let in_force = code_in_force(from.code, state.source_code);
-    let mapped = mapped(coding.q_scale_type, state.m, in_force);
+    let mapped = mapped(picture.coding.q_scale_type, state.m, in_force);
     let skipped = state.skipped + from.skipped_before;
     state.source_code = in_force;
     let codes = Codes { in_force, mapped };
-    let coded = make_blocks(levels, seq, coding, codes, inner, from, &mut to.blocks);
+    let coded = make_blocks(levels, picture, codes, inner, from, &mut to.blocks);
     if !coded {
         state.skipped = skipped + 1;
         return false;
     }
-    write_head(coding, mapped, state.version_code, skipped, from, to);
+    write_head(
+        picture.coding,
+        mapped,
+        state.version_code,
+        skipped,
+        from,
+        to,
+    );
     state.version_code = code_in_force(to.code, state.version_code);
     state.skipped = 0;
     true
@@ -127,22 +129,20 @@ pub fn step(
 
 /// The distortion of a macroblock in a version in which it is coded or skipped, by the codes in force, over all places.
 fn distortion_of(
-    seq: &SeqState,
-    coding: &PicCoding,
+    picture: PictureParameters<'_>,
     state: VersionState,
     from: &Macroblock,
     coded: bool,
     to: &Macroblock,
 ) -> u64
-    requires source { IsSide seq.now state.source_code from.now }
-    requires version { coded ≡ true → IsSide seq.now state.version_code to.now }
-    ensures value { result ≡ difference_of (coefficient_of_macroblock seq.now coding.now state.source_code (Option.Some from.now))
-        (coefficient_of_macroblock seq.now coding.now state.version_code (made_of coded to.now)) }
+    requires source { IsSide picture.seq.now state.source_code from.now }
+    requires version { coded ≡ true → IsSide picture.seq.now state.version_code to.now }
+    ensures value { result ≡ difference_of (coefficient_of_macroblock picture.entry.seq.now picture.entry.coding.now state.source_code (Option.Some from.now))
+        (coefficient_of_macroblock picture.entry.seq.now picture.entry.coding.now state.version_code (made_of coded to.now)) }
     ensures bound { result ≤ 2 ^ 41 }
 {
     let source = Side {
-        seq,
-        coding,
+        picture,
         code: state.source_code,
         macroblock: from,
     };
@@ -150,8 +150,7 @@ fn distortion_of(
         return difference_of_one(source);
     }
     let version = Side {
-        seq,
-        coding,
+        picture,
         code: state.version_code,
         macroblock: to,
     };

@@ -8,7 +8,7 @@ use Rattle.shelf_io.specs.WholeFile.{HoldsPrefix}
 use Rattle.command_words.specs.declared.ended.Ended.{Ended}
 use Rattle.command_words.specs.declared.status.Status.TheVariants.{WriteFault}
 use Rattle.command_words.specs.Ended.{EndsBy, answer_of}
-use Rattle.command_words.specs.Outside.{ShelfFacts}
+use Rattle.shelf_io.specs.Facts.{ShelfFacts}
 use Rattle.command_words.proofs.Counted.{write_grows}
 use Rattle.command_words.proofs.Ends.{ends_by_write, tells}
 use Rattle.run_command.specs.declared.steps.Prepared.{Prepared}

@@ -9,7 +9,7 @@ use Rattle.slot_rule.specs.declared.sent.Miss.{Miss}
 use Rattle.command_words.specs.declared.ended.Ended.{Ended}
 use Rattle.command_words.specs.declared.status.Status.TheVariants as statuses
 use Rattle.command_words.specs.Ended.{EndsBy, Performs, answer_of}
-use Rattle.command_words.specs.Outside.{ShelfFacts}
+use Rattle.shelf_io.specs.Facts.{ShelfFacts}
 use Rattle.command_words.specs.Report.{miss_report}
 use Rattle.command_words.specs.Task.{AsksOnly}
 use Rattle.command_words.proofs.Performed.{performs_uncalled}

@@ -22,7 +22,8 @@ use Rattle.command_words.specs.declared.ended.Ended.{Ended}
 use Rattle.command_words.specs.declared.status.Status.{Status}
 use Rattle.command_words.specs.Answer.{AnswerHasCause, Decides, EndsWithStatus, HasCause}
 use Rattle.command_words.specs.Ended.{Performs, answer_of}
-use Rattle.command_words.specs.Outside.{CountsGrow, OnFiles, ShelfFacts}
+use Rattle.shelf_io.specs.Facts.{ShelfFacts}
+use Rattle.command_words.specs.Outside.{CountsGrow, OnFiles}
 use Rattle.command_words.proofs.Counted.{asks_none, counts_twice, write_grows}
 use Rattle.command_words.proofs.Ends.{ends_behind_write}
 use Rattle.job_files.specs.declared.job_table.JobTable.{JobTable}
@@ -32,7 +33,7 @@ use Rattle.run_command.specs.declared.steps.Prepared.{Prepared}
 use Rattle.run_command.specs.Private.Prepared.{CertificateHasCause, Certifies, EndsCertificate, IsPrepared}
 use Rattle.run_command.specs.RunCommand.{RunWork, IsWork, RunDone, RunLeaves, files_of_run, run_task}
 use Rattle.run_command.specs.Private.StreamFile.{HoldsStream, HoldsStreamPart}
-use Rattle.run_command.specs.Written.{IsJobStream}
+use Rattle.run_command.specs.Written.{IsStreamOn}
 
 -- the work of a run, from its parts
 abbrev work_of : JobTable → Cert → SlotList → List ℕ → RunWork
@@ -40,7 +41,7 @@ work_of made cert slots stream = record { made = made; cert = cert; slots = slot
 
 is_work : (told : Option Files) (job out certificate : List ℕ) (made : JobTable) (cert : Cert) (slots : SlotList) (stream : List ℕ)
     → IsJobTable told job (files_of_run job out certificate) made → IsPlan made.table cert → IsSlotList made.table cert.choice slots
-    → IsJobStream made cert.choice slots stream → IsWork told job out certificate (work_of made cert slots stream)
+    → IsStreamOn told made cert.choice slots stream → IsWork told job out certificate (work_of made cert slots stream)
 is_work told job out certificate made cert slots stream has plan are stands = record { made = has; is_plan = plan; are_slots = are; is_stream = stands }
 
 -- both files were written whole

@@ -21,7 +21,7 @@ use Rattle.slot_rule.specs.declared.slot_list.SlotList.{SlotList}
 use Rattle.slot_rule.specs.Schedule.{IsFirstMiss}
 use Rattle.slot_rule.specs.SlotList.{IsSlotList}
 use Rattle.version_table.specs.Choice.{IsSmallestChoice}
-use Rattle.run_command.specs.Written.{IsJobStream}
+use Rattle.run_command.specs.Written.{IsStreamOn}
 
 -- the files that `run` names itself
 abbrev pub files_of_run : (job out certificate : List ℕ) → List (List ℕ)
@@ -41,7 +41,7 @@ pub record IsWork (told : Option Files) (job out certificate : List ℕ) (work :
   pub made : IsJobTable told job (files_of_run job out certificate) work.made
   pub is_plan : IsPlan work.made.table work.cert
   pub are_slots : IsSlotList work.made.table work.cert.choice work.slots
-  pub is_stream : IsJobStream work.made work.cert.choice work.slots work.stream
+  pub is_stream : IsStreamOn told work.made work.cert.choice work.slots work.stream
 
 -- what is reported of it
 abbrev pub report_of_run : RunWork → Report

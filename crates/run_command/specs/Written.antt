@@ -1,5 +1,6 @@
 -- The stream of a job.
-use Rattle.std.specs.Prelude.{◌≡◌, ℕ, ◌*◌, List, length, map}
+use Rattle.std.specs.Prelude.{◌≡◌, ℕ, ◌*◌, List, length, map, Option, IfSome}
+use Rattle.shelf_io.specs.Files.{Files}
 use Rattle.slot_rule.specs.declared.slot_list.SlotList.{SlotList}
 use Rattle.stream_constants.specs.declared.packets.TheConstants.{PACKET_BYTES}
 use Rattle.job_stream.specs.Stream.{IsStreamIn}
@@ -22,3 +23,12 @@ pub record IsJobStream (made : JobTable) (choice : List ℕ) (slots : SlotList) 
   pub held : (contents : List (List ℕ)) × ArePrograms made.job contents made.programs
   pub read_back : (contents : List (List ℕ)) → ArePrograms made.job contents made.programs
       → ParsesTo stream 0 made.job.programs contents made.programs is_stream.versions choice
+
+-- The stream of a job whose programs were read: a packet for each slot, whose bytes give no buffer a fault; and all of the above where there are contents of
+-- the programs' files of which they are the programs, as there are where the shelf tells its files.
+pub record IsStreamOn (told : Option Files) (made : JobTable) (choice : List ℕ) (slots : SlotList) (stream : List ℕ) : Type 0 where
+  pub is_stream : IsStreamIn made.job made.programs choice slots stream
+  pub whole : length stream ≡ PACKET_BYTES * slots.slots
+  pub clean : IsCleanStream made.table choice stream
+  pub of_contents : (contents : List (List ℕ)) → ArePrograms made.job contents made.programs → IsJobStream made choice slots stream
+  pub held : IfSome told (λ files. IsJobStream made choice slots stream)

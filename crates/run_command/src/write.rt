@@ -1,16 +1,16 @@
-ghost use Rattle.std.specs.Prelude.{◌≡◌, ◌⊎◌, ℕ, List, OnOk, OnErr, IsErrOf};
+ghost use Rattle.std.specs.Prelude.{◌≡◌, OnOk, OnErr, IsErrOf};
 ghost use Rattle.shelf_io.specs.Asked.{AsksNothing};
 ghost use Rattle.shelf_io.specs.Causes.{WriteCauses};
 ghost use Rattle.slot_rule.specs.SlotList.{IsSlotList};
 ghost use Rattle.version_table.specs.Choice.{Fits};
 ghost use Rattle.version_table.specs.Table.{IsValidTable};
 ghost use Rattle.job_report.specs.ValidJob.{IsValidJob};
-ghost use Rattle.job_programs.specs.Programs.{ArePrograms};
+ghost use Rattle.job_programs.specs.Told.{AreProgramsOn};
 ghost use Rattle.program_table.specs.Table.{IsTableOf};
 ghost use Rattle.run_command.specs.Private.StreamFile.{HoldsStream, HoldsStreamPart};
 
 use clean_laws::laws::stream_is_clean;
-use job_files::{JobTable, see_videos};
+use job_files::JobTable;
 use job_laws::programs::programs_are_read_back;
 use job_stream::laws::stream_has_slots;
 use job_stream::write_job_stream;
@@ -23,7 +23,7 @@ use version_table::Choice;
 /// Makes the stream of a job in the versions that the choice names, in these slots, the content of a file. After a fault the file
 /// holds what it held before, or a front of the stream.
 ///
-/// It needs the programs of the job and their valid table, a choice that fits it, and the table's slots under the choice.
+/// It needs programs that were read for the job and their valid table, a choice that fits it, and the table's slots under the choice.
 pub(crate) fn write_stream_file<K: Shelf>(
     alloc: Global,
     shelf: &mut K,
@@ -33,7 +33,7 @@ pub(crate) fn write_stream_file<K: Shelf>(
     slots: &SlotList,
 ) -> Result<(), Fault>
     requires job { IsValidJob made.now.job }
-    requires programs { (contents : List (List ℕ)) × ArePrograms made.now.job contents made.now.programs }
+    requires programs { AreProgramsOn (K.files shelf.now) made.now.job made.now.programs }
     requires table { IsTableOf made.now.job made.now.programs made.now.table }
     requires valid { IsValidTable made.now.table }
     requires fits { Fits made.now.table choice.now }
@@ -51,7 +51,6 @@ pub(crate) fn write_stream_file<K: Shelf>(
     stream_carries_its_times();
     stream_is_clean_by_its_times();
     programs_are_read_back();
-    see_videos(made.programs.as_slice());
     shelf.start(name)?;
     write_job_stream(
         alloc,

@@ -139,7 +139,7 @@ seam xs n size h =
     ∙ take-append-drop (size - n) (drop n xs)
 
 -- what went to the front of a part of a buffer went to the front of the buffer
-fills_part : (rest buf room after : List ℕ) (m size n : ℕ) → size ≡ min (length buf) m → n ≤ size → after ≡ room ++ drop size buf
+pub fills_part : (rest buf room after : List ℕ) (m size n : ℕ) → size ≡ min (length buf) m → n ≤ size → after ≡ room ++ drop size buf
     → CopiesFront rest (take size buf) room n → CopiesFront (take m rest) buf after n
 fills_part rest buf room after m size n is few joined fills =
     let front : take n (take m rest) ≡ take n rest = take-take n m rest (omega arith) in
@@ -158,7 +158,7 @@ fills_part rest buf room after m size n is few joined fills =
     some_left : 0 < min m (length rest) → 0 < length rest
     some_left h = omega arith
 
-content_holds : (P : List ℕ → Type 0) (o : Option (List ℕ)) → IsSomeAnd o P → P (unwrap_or o [])
+pub content_holds : (P : List ℕ → Type 0) (o : Option (List ℕ)) → IsSomeAnd o P → P (unwrap_or o [])
 content_holds P None h = absurd h
 content_holds P (Some content) h = h
 

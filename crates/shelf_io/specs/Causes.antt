@@ -1,5 +1,5 @@
 -- What a fault of the outside rests on: each comes only where the count of its own rose in that call, a count rises only in a call
--- that answers the fault, and no count falls.
+-- that answers the fault, and no count falls. `distrust` alone answers nothing and raises a count (`with_fault`).
 use Rattle.std.specs.Prelude.{◌≡◌, ℕ, ◌<◌, ◌≤◌}
 use Rattle.shelf_io.specs.Counts.{Rose, ShelfCounts}
 

@@ -16,6 +16,10 @@ pub record ShelfCounts : Type 0 where
   pub write_faults : ℕ
   pub absences : ℕ
 
+-- the counts after one more failed read, which has no other trace
+abbrev pub with_fault : ShelfCounts → ShelfCounts
+with_fault counts = record counts { faults = one_more counts.faults }
+
 -- by this code a proof tells counts apart
 abbrev pub counts_code : Coded ShelfCounts
 counts_code =

@@ -1,5 +1,5 @@
 -- Files as a shelf tells them.
-use Rattle.std.specs.Prelude.{◌≡◌, ℕ, List, [], ◌++◌, Option, None, IfSome, IsSomeAnd, unwrap_or}
+use Rattle.std.specs.Prelude.{◌≡◌, ℕ, List, [], ◌++◌, Option, Some, None, IfSome, IsSomeAnd, unwrap_or}
 use Rattle.std.specs.Coded.{Coded, coded_ℕ, coded_list}
 use Rattle.std.specs.Option.{option_map}
 use Rattle.std.specs.Ordering.{nat_cmp}
@@ -21,6 +21,11 @@ IfTold told name P = IfSome told (λ files. IsSomeAnd (get files name) P)
 -- where files are told, the name isn't held
 abbrev pub Lacks : Option Files → List ℕ → Type 0
 Lacks told name = IfSome told (λ files. get files name ≡ None)
+
+-- one of two, the first where no files are told
+abbrev pub where_untold : {A : Type 0} → Option Files → A → A → A
+where_untold None untold told = untold
+where_untold (Some files) untold told = told
 
 -- the bytes of a file; one that isn't held counts as empty
 abbrev pub content_of : Files → List ℕ → List ℕ

@@ -2,6 +2,7 @@ pub mod Asked
 pub mod Buffer
 pub mod Causes
 pub mod Counts
+pub mod Facts
 pub mod Files
 pub mod Reading
 pub mod Sink

@@ -1,8 +1,8 @@
 ghost use Rattle.std.specs.Prelude.{◌≡◌, ℕ, Option, [], List, length, drop, take, ◌+◌, ◌<◌, ◌≤◌, IfOk, OnOk, OnErr, IsErrOf};
 ghost use Rattle.shelf_io.specs.Asked.{AsksUpTo, AsksNothing};
 ghost use Rattle.shelf_io.specs.Causes.{ReadCauses, WriteCauses};
-ghost use Rattle.shelf_io.specs.Counts.{ShelfCounts};
-ghost use Rattle.shelf_io.specs.Files.{Files, IfTold, Lacks, with_content, with_more};
+ghost use Rattle.shelf_io.specs.Counts.{ShelfCounts, with_fault};
+ghost use Rattle.shelf_io.specs.Files.{Files, IfTold, Lacks, with_content, with_more, where_untold};
 ghost use Rattle.shelf_io.specs.Buffer.{CopiesFront};
 
 use crate::fault::Fault;
@@ -12,14 +12,14 @@ pub trait Shelf {
     /// The files that it holds, where it tells them: those in memory do, a folder of real files doesn't.
     ghost files: { Self → Option Files };
 
-    /// How many calls of `read` have failed, how many of `start` and `append`, and how many of `read` met a name that
-    /// isn't held.
+    /// How many reads have failed, by their own answer or by `distrust`, how many calls of `start` and `append`, and how many
+    /// of `read` met a name that isn't held.
     ghost counts: { Self → ShelfCounts };
 
     /// The farthest place of each file that a call of `read` asked for, where it keeps count of them.
     ghost asked: { Self → List ℕ → ℕ } = { λ _ _. 0 };
 
-    /// How many calls came after the last one that answered a fault, where it keeps count of them.
+    /// How many calls came after the last one that answered or counted a fault, where it keeps count of them.
     ghost since_fault: { Self → ℕ } = { λ _. 0 };
 
     /// Reads bytes of a file from place `at` on into the front of `buf`, and answers how many. It answers 0 for
@@ -58,4 +58,14 @@ pub trait Shelf {
 
         ensures causes { WriteCauses (IsErrOf result Fault.Failed) (IsErrOf result Fault.Missing) (counts self.old) (counts self.new) }
         ensures fault_last { OnErr result (since_fault self.new ≡ 0) };
+
+    /// Counts a failed read of a file: what is read of it now can't be what was read of it before. All else stays. A shelf that tells its
+    /// files does nothing, since such a file is what it was.
+    fn distrust(&mut self, name: &str)
+        ensures counted { counts self.new ≡ where_untold (files self.old) (with_fault (counts self.old)) (counts self.old) }
+        ensures files { files self.new ≡ files self.old }
+
+        ensures asked { asked self.new ≡ asked self.old }
+
+        ensures since { since_fault self.new ≡ where_untold (files self.old) 0 (since_fault self.old) };
 }

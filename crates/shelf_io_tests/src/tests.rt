@@ -1,5 +1,6 @@
-ghost use Rattle.std.specs.Prelude.{◌≡◌, OnOk, codes, if◌then◌else◌};
+ghost use Rattle.std.specs.Prelude.{◌≡◌, OnOk, None, codes, if◌then◌else◌};
 ghost use Rattle.std.specs.Str.{bytes_eq};
+ghost use Rattle.shelf_io.specs.Counts.{with_fault};
 ghost use Rattle.shelf_io.specs.Sink.{with_bytes};
 
 use shelf_io::{
@@ -136,6 +137,22 @@ impl<'a, K: Shelf> Shelf for WatchedShelf<'a, K> {
     fn append(&mut self, name: &str, piece: &[u8]) -> Result<usize, Fault> {
         self.inner.append(name, piece)
     }
+
+    fn distrust(&mut self, name: &str) {
+        self.inner.distrust(name);
+    }
+}
+
+/// Distrusts a file twice: each counts, and that is all.
+fn distrust_twice<K: Shelf>(shelf: &mut K, name: &str)
+    requires untold { K.files shelf.old ≡ None }
+    ensures counted { K.counts shelf.new ≡ with_fault (with_fault (K.counts shelf.old)) }
+    ensures files { K.files shelf.new ≡ K.files shelf.old }
+    ensures asked { K.asked shelf.new ≡ K.asked shelf.old }
+    ensures last { K.since_fault shelf.new ≡ 0 }
+{
+    shelf.distrust(name);
+    shelf.distrust(name);
 }
 
 #[test]
@@ -300,6 +317,7 @@ fn a_real_file_is_written_and_read_back(rt: HostRuntime) -> Result<(), Fail> {
     let mut shelf = FileShelf::new(&rt);
     let started = write_file(&mut shelf, name, b"one two");
     let added = put_all(&mut Writing::new(&mut shelf, name), b" three");
+    distrust_twice(&mut shelf, name);
     let held = reads(alloc, &mut shelf, name, 100, b"one two three");
     fs::remove_file(&rt, name)?;
     let removed = reads(alloc, &mut shelf, name, 100, b"");

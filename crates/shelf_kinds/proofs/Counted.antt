@@ -7,6 +7,7 @@ use Rattle.shelf_io.specs.Asked.{AsksUpTo}
 use Rattle.shelf_io.specs.Causes.{SinkCauses, ReadCauses, WriteCauses}
 use Rattle.shelf_kinds.specs.Counted.{counts_after_read, counts_after_write, faults_after_put}
 use Rattle.shelf_io.specs.Counts.{Rose, ShelfCounts, one_more}
+use Rattle.shelf_io.proofs.Counted.{rose_by_one}
 
 -- what holds anyway holds of an answer
 pub if_ok : {T : Type 0} (r : Result T Fault) (P : T → Type 0) → ((n : T) → P n) → IfOk r P
@@ -20,9 +21,6 @@ on_err (Err e) P holds = holds
 -- a shelf that keeps no count of the places that were asked for
 pub asks_uncounted : (name : List ℕ) (place : ℕ) → AsksUpTo name place (λ _. 0) (λ _. 0)
 asks_uncounted name place = record { here = omega arith; others = λ other differs. omega arith }
-
-rose_by_one : (n : ℕ) → Rose n (one_more n)
-rose_by_one n = λ small. grind (arith, nat_tests)
 
 grows_by_one : (n : ℕ) → n ≤ one_more n
 grows_by_one n = grind (arith, nat_tests)

@@ -98,4 +98,9 @@ impl Shelf for CalmShelf {
         self.table.append(name, piece)?;
         Ok(piece.len())
     }
+
+    // Its files are told: each is what it was.
+    fn distrust(&mut self, name: &str) {
+        let _ = name;
+    }
 }

@@ -1,6 +1,6 @@
 ghost use Rattle.std.specs.Prelude.{◌≡◌, ◌≢◌, ◌≤◌, ◌<◌, length, IfOk, OnErr};
 ghost use Rattle.shelf_kinds.specs.Counted.{counts_after_read, counts_after_write};
-ghost use Rattle.shelf_io.specs.Counts.{no_counts};
+ghost use Rattle.shelf_io.specs.Counts.{no_counts, with_fault};
 
 use shelf_io::{Fault, PIECE_BYTES, Shelf, copy_front};
 use std::fs::{File, OpenOptions};
@@ -97,6 +97,13 @@ impl<'a, R: Files> Shelf for FileShelf<'a, R> {
                 Err(Fault::Failed)
             }
         }
+    }
+
+    fn distrust(&mut self, name: &str)
+        ensures after { self.new ≡ with_fault self.old }
+    {
+        let _ = name;
+        self.faults = self.faults.saturating_add(1);
     }
 }
 

@@ -150,7 +150,9 @@ packets-most slot (packet ∷ packets) a each start =
     packets-most slot packets (max a packet.due) (All-tail (IsValidPacket slot) packet packets each) (omega (arith, start, here.due, here.gone))
 
 audio_valid : (slot : ℕ) (audios : List (List AudioPacket)) → All (IsValidAudio slot) audios → All (IsValidPacket slot) (flat_map (λ packets. packets) audios)
-audio_valid slot audios each = All-flat_map (IsValidPacket slot) (λ packets. packets) audios (All-weaker (IsValidAudio slot) (λ packets. All (IsValidPacket slot) packets) (λ packets h. h.each) audios each)
+audio_valid slot audios each =
+    All-flat_map (IsValidPacket slot) (λ packets. packets) audios
+    (All-weaker (IsValidAudio slot) (λ packets. All (IsValidPacket slot) packets) (λ packets h. h.each) audios each)
 
 all_audio_valid : (table : Table) → IsValidTable table → All (IsValidPacket table.slot) (audio_packets_of table)
 all_audio_valid table valid =

@@ -18,7 +18,7 @@ abbrev table_of : (slot : ℕ) → ProgramRow → Table
 table_of slot program = record { slot = slot; nodes = 1; evaluations = 0; programs = program ∷ [] }
 
 -- a unit in one version, and a program of units alone
-abbrev unit_of : (due bytes : ℕ) → CodedUnit
+abbrev pub unit_of : (due bytes : ℕ) → CodedUnit
 unit_of due bytes = record { due = due; versions = record { items = record { bytes = bytes; distortion = 0 } ∷ [] } }
 
 abbrev units_alone : (vbv : ℕ) → List CodedUnit → ProgramRow

@@ -56,7 +56,7 @@ headers_fewer (Data ∷ parts) =
     let payload : count_by is_payload (Data ∷ parts) ≡ 1 + count_by is_payload parts = sum_by-cons (λ (x : PacketPart). cond (is_payload x) 1 0) Data parts in
     omega (arith, headers_fewer parts, header, payload)
 
-within-one : (place : Place) (parts : List PacketPart) → place.payload ≤ PACKET_BYTES → HasHeaderWithin (brought_by place (take place.payload parts))
+pub within-one : (place : Place) (parts : List PacketPart) → place.payload ≤ PACKET_BYTES → HasHeaderWithin (brought_by place (take place.payload parts))
 within-one place parts le = (
   headers_fewer (take place.payload parts),
   omega (arith, le, count_by-le-length is_payload (take place.payload parts), length-take place.payload parts),

@@ -18,11 +18,9 @@ use Rattle.stream_audit.specs.Clock.{shift}
 use Rattle.elementary_streams.specs.Packets.{pes_payload_of, placed_from, taken}
 use Rattle.stream_audit.specs.Removals.{not_before_zero, removed_at}
 use Rattle.stream_audit.specs.Private.FrameRemovals.{AreChained, Climb, frame_removal}
+use Rattle.audio_frames.proofs.Timed.{span}
 
 -- ---- frames cover their payload
-
-abbrev span_of : Frame → ℕ × ℕ
-span_of frame = (frame.at, frame.at + frame.len)
 
 abbrev first_of : List (ℕ × ℕ) → ℕ × ℕ
 first_of [] = (0, 0)
@@ -32,29 +30,29 @@ abbrev rest_of : List (ℕ × ℕ) → List (ℕ × ℕ)
 rest_of [] = []
 rest_of (x ∷ xs) = xs
 
-pub spans_chained : (from : ℕ) (cuts : List ℕ) (end : ℕ) (frames : List Frame) → map span_of frames ≡ spans from cuts end → AreChained from frames
+pub spans_chained : (from : ℕ) (cuts : List ℕ) (end : ℕ) (frames : List Frame) → map span frames ≡ spans from cuts end → AreChained from frames
 spans_chained from cuts end [] are = tt
 spans_chained from [] end (frame ∷ []) are = (ap (λ (xs : List (ℕ × ℕ)). (first_of xs).0) are, tt)
-spans_chained from [] end (frame ∷ next ∷ frames) are = absurd (let none : map span_of (next ∷ frames) ≡ [] = ap rest_of are in cc)
+spans_chained from [] end (frame ∷ next ∷ frames) are = absurd (let none : map span (next ∷ frames) ≡ [] = ap rest_of are in cc)
 spans_chained from (cut ∷ cuts) end (frame ∷ frames) are =
     let ends : frame.at + frame.len ≡ cut = ap (λ (xs : List (ℕ × ℕ)). (first_of xs).1) are in (
       ap (λ (xs : List (ℕ × ℕ)). (first_of xs).0) are,
       subst (λ (n : ℕ). AreChained n frames) (sym ends) (spans_chained cut cuts end frames (ap rest_of are)),
     )
 
-pub spans_within : (from : ℕ) (cuts : List ℕ) (end : ℕ) (frames : List Frame) → map span_of frames ≡ spans from cuts end → All (λ frame. frame.at + frame.len ≤ end) frames
+pub spans_within : (from : ℕ) (cuts : List ℕ) (end : ℕ) (frames : List Frame) → map span frames ≡ spans from cuts end → All (λ frame. frame.at + frame.len ≤ end) frames
 spans_within from cuts end [] are = All-nil (λ (frame : Frame). frame.at + frame.len ≤ end)
 spans_within from [] end (frame ∷ []) are =
     let ends : frame.at + frame.len ≡ end = ap (λ (xs : List (ℕ × ℕ)). (first_of xs).1) are in
     All-cons (λ (frame : Frame). frame.at + frame.len ≤ end) frame [] (omega (arith, ends)) (All-nil (λ (frame : Frame). frame.at + frame.len ≤ end))
-spans_within from [] end (frame ∷ next ∷ frames) are = absurd (let none : map span_of (next ∷ frames) ≡ [] = ap rest_of are in cc)
+spans_within from [] end (frame ∷ next ∷ frames) are = absurd (let none : map span (next ∷ frames) ≡ [] = ap rest_of are in cc)
 spans_within from (cut ∷ cuts) end (frame ∷ []) are = absurd (some_spans cut cuts end (ap rest_of are))
   where
     some_spans : (from : ℕ) (cuts : List ℕ) (end : ℕ) → [] ≡ spans from cuts end → ⊥
     some_spans from [] end is = cc
     some_spans from (cut ∷ cuts) end is = cc
 spans_within from (cut ∷ cuts) end (frame ∷ next ∷ frames) are =
-    let rest : map span_of (next ∷ frames) ≡ spans cut cuts end = ap rest_of are in
+    let rest : map span (next ∷ frames) ≡ spans cut cuts end = ap rest_of are in
     let later = spans_within cut cuts end (next ∷ frames) rest in
     let ends : frame.at + frame.len ≡ cut = ap (λ (xs : List (ℕ × ℕ)). (first_of xs).1) are in
     let begins : next.at ≡ cut = (spans_chained cut cuts end (next ∷ frames) rest).0 in

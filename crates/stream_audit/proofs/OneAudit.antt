@@ -1,18 +1,16 @@
 -- A program of a file with some units has one first finding, or one refusal, and never both.
-use Rattle.std.proofs.Common.{◌≡◌, ◌≢◌, ◌⊎◌, inl, inr, ℕ, ◌+◌, ◌*◌, ◌<◌, ◌≤◌, true, false, List, [], ◌∷◌, ◌++◌, All, length, Option, Some, None, pos, refl, sym, ap, ap₂, ◌∙◌, subst, arith}
+use Rattle.std.proofs.Common.{◌≡◌, ◌≢◌, ◌⊎◌, inl, inr, ℕ, ◌+◌, ◌*◌, ◌<◌, true, false, List, [], ◌∷◌, ◌++◌, All, length, Option, Some, None, pos, refl, sym, ap, ap₂, ◌∙◌, subst, arith}
 use Rattle.std.proofs.lemmas.Bool.{cases_order}
 use Rattle.std.proofs.lemmas.List.Elements.{All-head, All-tail}
 use Rattle.stream_constants.specs.declared.packets.TheConstants.{PACKET_BYTES}
 use Rattle.audio_frames.specs.declared.frame.Frame.{Frame}
 use Rattle.psi_tables.specs.declared.stream.Stream.{Stream}
-use Rattle.ts_packets.specs.declared.pid_fault.PidFault.{PidFault}
 use Rattle.ts_packets.specs.TransportStream.{pid_pieces}
 use Rattle.ts_demux.specs.declared.demuxed.AudioStream.{AudioStream}
 use Rattle.ts_demux.specs.declared.demuxed.Demuxed.{Demuxed}
 use Rattle.ts_demux.specs.declared.demuxed.PesUnit.{PesUnit}
 use Rattle.ts_demux.specs.declared.demux_fault.DemuxFault.{DemuxFault}
 use Rattle.ts_demux.specs.declared.demux_fault.DemuxFault.TheVariants as demux_faults
-use Rattle.ts_demux.specs.declared.pid_places.Place.{Place}
 use Rattle.ts_demux.specs.Demux.{AreStreamsSound, IsDemuxRefused, IsDemuxed, IsFirstStreamFault, IsStreamFault}
 use Rattle.ts_demux.specs.Faults.{of_pid}
 use Rattle.ts_demux.specs.PidPlaces.{IsPlacesFault, places_on}
@@ -23,18 +21,16 @@ use Rattle.ts_demux.proofs.OneStop.{no_sync_first, one_pat, one_pid_fault}
 use Rattle.ts_demux.proofs.TableLemmas.{of_one}
 use Rattle.elementary_streams.specs.declared.stream_fault.StreamFault.{StreamFault}
 use Rattle.elementary_streams.specs.declared.stream_fault.StreamFault.TheVariants as stream_faults
-use Rattle.elementary_streams.specs.Audio.{HasFrames, IsStreamRefused}
 use Rattle.elementary_streams.specs.Packets.{joined, taken}
 use Rattle.elementary_streams.proofs.OneStream.{packet_fault_one, refused_or_has, sound_or_fault, stream_frames_one, stream_refused_one}
 use Rattle.stream_audit.specs.declared.audit_stop.AuditStop.{AuditStop}
 use Rattle.stream_audit.specs.declared.audit_stop.AuditStop.TheVariants as stops
-use Rattle.stream_audit.specs.declared.audited_program.TheConstants.{AUDITED_BYTES_MOST}
 use Rattle.stream_audit.specs.declared.audited_stream.AuditedStream.{AuditedStream}
 use Rattle.stream_audit.specs.declared.file_clock.FoundClock.{FoundClock}
 use Rattle.stream_audit.specs.declared.finding.Finding.{Finding}
 use Rattle.stream_audit.specs.declared.kept_units.KeptUnits.{KeptUnits}
 use Rattle.stream_audit.specs.Audit.{AreStreamsOf, IsAudited}
-use Rattle.stream_audit.specs.Clock.{IsClockOf, clock_of, first_off}
+use Rattle.stream_audit.specs.Clock.{IsClockOf, first_off}
 use Rattle.stream_audit.specs.Findings.{FindsBy}
 use Rattle.stream_audit.specs.Refusals.{AreTablesSound, IsAuditStopped, IsAudioSound, IsAudioStopped, IsClockStopped, IsFirstAudioStopped, IsProgramRead, IsProgramStopped, IsSystemFault, IsVideoSound, IsVideoStopped, stop_of_demux, stop_of_stream}
 use Rattle.stream_audit.specs.Removals.{AreInTime, first_time, frame_removals, bytes_of_units, unit_removals}
@@ -99,7 +95,7 @@ clock_one file slot pid a b is also =
     let same : made ≡ b = ap₂ (λ (z : ℕ) (o : Option ℕ). record { zero = z; off = o }) zeros offs in
     same
 
-clock_or_stop : (file : List ℕ) (slot pid : ℕ) (clock : FoundClock) (stop : AuditStop) → stop ≢ stops.OutOfMemory → IsClockOf file slot pid clock → IsClockStopped file slot pid stop → ⊥
+pub clock_or_stop : (file : List ℕ) (slot pid : ℕ) (clock : FoundClock) (stop : AuditStop) → stop ≢ stops.OutOfMemory → IsClockOf file slot pid clock → IsClockStopped file slot pid stop → ⊥
 clock_or_stop file slot pid clock stop some is (IsClockStopped.no_pid none e) = is.known none
 clock_or_stop file slot pid clock stop some is (IsClockStopped.bad_packet fault pid_is bad e) = sound_or_places file pid fault (known_of stop fault some e) is.sound bad
 clock_or_stop file slot pid clock stop some is (IsClockStopped.no_reference pid_is sound none e) = let both : None ≡ Some clock.zero = sym none ∙ is.zero_is in cc

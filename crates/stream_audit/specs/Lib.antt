@@ -1,9 +1,14 @@
 pub mod Clock
 pub mod NeverEmpty
+pub mod BusyWalk
+pub mod BusyWatch
 pub mod Findings
 pub mod PesBytes
 pub mod Removals
 pub mod Streams
+pub mod StreamWatch
+pub mod PlacePass
+pub mod SectionPass
 pub mod Refusals
 pub mod Audit
 pub mod Private

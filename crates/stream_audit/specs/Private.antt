@@ -1,6 +1,9 @@
 pub mod BusyTime
 pub mod Clock
 pub mod PesParts
+pub mod PlacePass
 pub mod Sections
+pub mod SectionPass
+pub mod ArrivalPass
 pub mod FrameRemovals
 pub mod Audit

@@ -1,5 +1,6 @@
 //! A transport buffer that isn't empty once in a second (ISO/IEC 13818-1, 2.4.2.6).
-ghost use Rattle.std.specs.Prelude.{◌≡◌, ◌≤◌, ◌<◌, ◌+◌, ◌*◌, ◌^◌, ◌++◌, List, ℕ, Some, MatchOption, max, map, ◌∷◌, IfNone};
+ghost use Rattle.std.specs.Prelude.{◌≡◌, ◌≤◌, ◌<◌, ◌+◌, ◌*◌, ◌^◌, ◌++◌, List, ℕ, Some, MatchOption, max, map, ◌∷◌, IfNone, IfSome};
+ghost use Rattle.std.specs.Option.{ForSome};
 ghost use Rattle.std.specs.List.Sorted.{IsStrictlyIncreasing};
 ghost use Rattle.stream_constants.specs.declared.packets.TheConstants.{PACKET_BYTES};
 ghost use Rattle.tstd_model.specs.Instants.{spaced};
@@ -21,7 +22,7 @@ pub struct BusyTime {
 
 impl BusyTime {
     /// Before anything comes, where a byte takes so many subticks to leave.
-    fn new(subticks: u64) -> Self
+    pub(crate) fn new(subticks: u64) -> Self
         ensures begins { result ≡ record { subticks = subticks; from = 0; until = 0 } }
         ensures short { IsShort result }
     {
@@ -74,10 +75,29 @@ impl BusyTime {
             None
         }
     }
+
+    /// The same time behind a packet; none where the buffer hasn't been empty for a second then.
+    pub(crate) fn behind(self, first: u64, step: u64) -> Option<BusyTime>
+        requires together { step ≤ self.subticks }
+        requires short { IsShort self }
+        requires first_fits { first ≤ 2 ^ 60 }
+        requires from_fits { self.from ≤ 2 ^ 60 }
+        requires subticks_fit { self.subticks ≤ 203040 }
+        ensures busy { IfSome result (λ time. (later : List ℕ) → busy_behind self (spaced first step PACKET_BYTES ++ later) ≡ busy_behind time later) }
+        ensures short { ForSome result IsShort }
+        ensures from { ForSome result (λ time. time.from ≤ 2 ^ 60) }
+        ensures subticks { ForSome result (λ time. time.subticks ≡ self.subticks) }
+    {
+        let mut time = self;
+        match time.take(first, step) {
+            Some(_) => None,
+            None => Some(time),
+        }
+    }
 }
 
 /// The instant at which the first byte of a slot comes, the bytes `step` subticks apart.
-fn first_instant(slot_no: u32, step: u64) -> u64
+pub(crate) fn first_instant(slot_no: u32, step: u64) -> u64
     requires { step ≤ 203040 }
     ensures value { result ≡ PACKET_BYTES * slot_no * step }
     ensures small { result ≤ 2 ^ 60 }

@@ -11,7 +11,7 @@ use stream_constants::decoder::{AUDIO_TB_SUBTICKS, SYSTEM_TB_SUBTICKS, VIDEO_TB_
 use tstd_model::{BufferKind, TstdFault, first_fault};
 
 /// Subticks that a byte takes to leave TB.
-fn tb_subticks(kind: BufferKind) -> u64
+pub(crate) fn tb_subticks(kind: BufferKind) -> u64
     ensures value { result ≡ tb_subticks kind }
     ensures most { result ≤ 203040 }
 {

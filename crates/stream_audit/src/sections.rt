@@ -33,7 +33,7 @@ impl SectionPlaces {
     ghost use Rattle.stream_audit.specs.Private.Sections.{StandBefore, TakesSection};
 
     /// Before the first packet of every file.
-    fn new(map_pid: u16) -> Self
+    pub(crate) fn new(map_pid: u16) -> Self
         ensures { (file : List ℕ) → StandBefore file map_pid 0 result }
     {
         SectionPlaces {
@@ -44,7 +44,11 @@ impl SectionPlaces {
 
     /// Reads the n-th packet of every file in which they stand before it, and answers it where it is of one of the PIDs. An error is
     /// what refuses it for one of them.
-    fn take(&mut self, n: usize, bytes: &[u8; PACKET_BYTES]) -> Result<Option<Place>, DemuxFault>
+    pub(crate) fn take(
+        &mut self,
+        n: usize,
+        bytes: &[u8; PACKET_BYTES],
+    ) -> Result<Option<Place>, DemuxFault>
         requires place { PACKET_BYTES * n < 2 ^ 64 }
         ensures taken { (file : List ℕ) (map_pid : ℕ) → n < piece_count file → bytes.now ≡ piece_at file n → StandBefore file map_pid n self.old → TakesSection file map_pid n result }
         ensures behind { (file : List ℕ) (map_pid : ℕ) → n < piece_count file → bytes.now ≡ piece_at file n → StandBefore file map_pid n self.old →
@@ -87,7 +91,10 @@ fn section_arrivals(alloc: Global, file: &[u8], map_pid: u16) -> Result<ListOf<A
 }
 
 /// Adds a packet of sections, where there is one: all of its payload goes on from TB. An error is want of memory.
-fn push_section(arrivals: &mut ListOf<Arrival>, found: Option<Place>) -> Result<(), DemuxFault>
+pub(crate) fn push_section(
+    arrivals: &mut ListOf<Arrival>,
+    found: Option<Place>,
+) -> Result<(), DemuxFault>
     requires few { IfSome found (λ place. place.packet < 2 ^ 32) }
     requires fits { IfSome found (λ place. place.payload ≤ PAYLOAD_BYTES) }
     ensures added { OnOk result (arrivals.new ≡ arrivals.old ++ map section_arrival (option_to_list found)) }

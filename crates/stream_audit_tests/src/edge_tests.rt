@@ -1,13 +1,14 @@
 //! Each fault at its edge, beside its neighbour.
 
 use crate::files::{
-    PAT_PID, VIDEO_BYTES, VIDEO_PID, clock, first_wrong, found, more_video, pat, pmt, slow, video,
-    whole_unit, without_payload,
+    VIDEO_BYTES, clock, first_wrong, found, more_video, pat, pmt, slow, video, whole_unit,
+    without_payload,
 };
 use std::alloc::{AllocError, Global};
 use std::test::Fail;
 use stream_audit::FaultName;
 use stream_constants::packets::PACKET_BYTES;
+use test_packets::{PAT_PID, VIDEO_PID};
 
 // A slot of 40,000 ticks: the reference's byte in the packet of number 2 comes 2 * 40,000 + 10 * 40,000 / 188 = 82,127 ticks behind the file's first byte.
 #[test]

@@ -8,42 +8,18 @@ use list_types::ListOf;
 use std::alloc::{AllocError, Global};
 use stream_audit::{AuditStop, FaultName, Finding, KeptUnits, audit};
 use stream_constants::packets::{PACKET_BYTES, SYNC_BYTE};
+use test_packets::{MAP_PID, PAT_PID, file_of, packet, table};
+use ts_demux::PesUnit;
 use tstd_model::Removal;
-
-/// The PIDs of the files: that of the PAT, and those of the map and the video of program 1.
-pub const PAT_PID: u16 = 0;
-
-pub const MAP_PID: u16 = 256;
-
-pub const VIDEO_PID: u16 = 257;
 
 /// The bytes of the video that the files have, from the sequence header on.
 pub const VIDEO_BYTES: u32 = 162;
-
-/// What fills a packet behind what is said of it.
-const FILL: u8 = 0xFF;
 
 /// A PES header of video with a PTS of 0, and what a sequence header begins with.
 const PES_AND_SEQUENCE: [u8; 18] = [
     0x00, 0x00, 0x01, 0xE0, 0x00, 0x00, 0x80, 0x80, 0x05, 0x21, 0x00, 0x01, 0x00, 0x01, 0x00, 0x00,
     0x01, 0xB3,
 ];
-
-/// A packet of these parts, filled.
-fn packet(header: [u8; 4], front: &[u8], behind: &[u8]) -> [u8; PACKET_BYTES] {
-    let mut bytes = [FILL; PACKET_BYTES];
-    let parts = header.iter().chain(front).chain(behind);
-    for (to, from) in bytes.iter_mut().zip(parts) {
-        *to = *from;
-    }
-    bytes
-}
-
-/// A packet of a PID, with a section in its payload behind a pointer of 0.
-pub fn table(pid: u16, counter: u8, section: &[u8]) -> [u8; PACKET_BYTES] {
-    let [high, low] = pid.to_be_bytes();
-    packet([SYNC_BYTE, 0x40 | high, low, 0x10 | counter], &[0], section)
-}
 
 /// The packet of the PAT, and that of the PMT.
 pub fn pat() -> [u8; PACKET_BYTES] {
@@ -101,13 +77,15 @@ pub fn without_payload() -> [u8; PACKET_BYTES] {
     packet([SYNC_BYTE, 0x00, 0x00, 0x20], &[183, 0], &[])
 }
 
-/// The bytes of a file of these packets.
-pub fn file_of(alloc: Global, packets: &[[u8; PACKET_BYTES]]) -> Result<Vec<u8>, AllocError> {
-    let mut file = Vec::new(alloc);
-    for packet in packets {
-        file.extend_from_slice(packet)?;
-    }
-    Ok(file)
+/// The PES packet of the video's first packet.
+pub fn pes_packet(alloc: Global) -> Result<PesUnit, AllocError> {
+    let packet = video(0);
+    let mut bytes = Vec::new(alloc);
+    bytes.extend_from_slice(&packet[12..])?;
+    Ok(PesUnit {
+        at: 376,
+        bytes: ListOf::from_vec(bytes),
+    })
 }
 
 /// One unit, of so many bytes and due so many ticks behind a program's base, which is 0.

@@ -8,6 +8,8 @@ mod edge_tests;
 #[cfg(test)]
 mod files;
 #[cfg(test)]
+mod pass_tests;
+#[cfg(test)]
 mod refusal_tests;
 #[cfg(test)]
 mod sections;

@@ -1,11 +1,10 @@
 //! Why a program isn't audited, in the order of reading.
 
-use crate::files::{
-    MAP_PID, PAT_PID, clock, first_wrong, pat, pmt, slow, table, video, video_of_bytes,
-};
+use crate::files::{clock, first_wrong, pat, pmt, slow, video, video_of_bytes};
 use crate::sections::{PAT, PMT_WITHOUT_CLOCK};
 use pes_units::PesFault;
 use stream_audit::AuditStop;
+use test_packets::{MAP_PID, PAT_PID, table};
 use ts_demux::DemuxFault;
 
 // Behind the map nothing else looks at the packets of PID 0.

@@ -10,14 +10,7 @@ use Rattle.ts_demux.specs.declared.demuxed.PesUnit.{PesUnit}
 use Rattle.ts_demux.specs.Demux.{IsDemuxed, pes_packets_on}
 use Rattle.pes_passing.specs.PassingPackets.{packets_before}
 use Rattle.stream_pass.specs.PassedStream.{HasPackets}
-
--- the stream of a number, and its PID
-stream_at : (file : List ℕ) (streams : List Stream) (k : ℕ) (stream : AudioStream) (pid : ℕ) → slice_get (map (pes_packets_on file) streams) k ≡ Some stream
-    → slice_get (map (λ (s : Stream). s.pid) streams) k ≡ Some pid → stream.units ≡ packets_before file pid (piece_count file)
-stream_at file [] k stream pid there here = absurd cc
-stream_at file (s ∷ streams) zero stream pid there here =
-    ap (λ (a : AudioStream). a.units) (sym (same_Some (pes_packets_on file s) stream there)) ∙ ap (λ (p : ℕ). packets_before file p (piece_count file)) (same_Some s.pid pid here)
-stream_at file (s ∷ streams) (suc k) stream pid there here = stream_at file streams k stream pid there here
+use Rattle.pes_passing.proofs.Demuxed.{stream_at}
 
 module _ (file : List ℕ) (program : ℕ) (drop : List ℕ) (demuxed : Demuxed) (packets : List PesUnit) (is : IsDemuxed file program drop demuxed) where
   -- the PID of a number on the map

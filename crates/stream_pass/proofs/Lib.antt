@@ -1,2 +1,5 @@
 pub mod Passed
 pub mod Demuxed
+pub mod Streams
+pub mod Elements
+pub mod Split

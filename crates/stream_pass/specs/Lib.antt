@@ -1,3 +1,4 @@
 pub mod PassedStream
+pub mod PassedElements
 pub mod StreamWalk
 pub mod Private

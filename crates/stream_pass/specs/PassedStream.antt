@@ -2,6 +2,7 @@
 use Rattle.std.specs.Prelude.{◌≡◌, ◌⊎◌, ℕ, ◌<◌, ◌≤◌, List, length, slice_get, Option, Some}
 use Rattle.ts_packets.specs.TransportStream.{piece_count}
 use Rattle.ts_demux.specs.declared.demuxed.PesUnit.{PesUnit}
+use Rattle.ts_demux.specs.declared.pass_fault.PassFault.{PassFault}
 use Rattle.ts_demux.specs.declared.pass_fault.PassFault.TheVariants as passes
 use Rattle.ts_demux.specs.Demux.{AreStreamsSound, IsFirstStreamFault}
 use Rattle.ts_demux.specs.Faults.{IsMemory}
@@ -44,7 +45,7 @@ pub data IsOverLimit (file pids : List ℕ) (index : ℕ) : Type 0 where
 -- What is said of a refusal: of the first transport packet that is refused, as far as the file was read; of a limit and of the stream, when all of it was. A fault
 -- of the outside has its cause in the counts, and want of memory may come at any time.
 abbrev pub IsReadRefused : {F : Type 0} → (left left_after : Option (List ℕ)) → (most most_after : ℕ) → (held pids : List ℕ) → (index : ℕ)
-    → (refuses : List PesUnit → F → Type 0) → ReadFault F → Type 0
+    → (refuses : List PesUnit → F → Type 0) → ReadFault PassFault F → Type 0
 IsReadRefused left left_after most most_after held pids index refuses (faults.Passing (passes.Outside fault)) = Unit {0}
 IsReadRefused left left_after most most_after held pids index refuses (faults.Passing (passes.Refused fault)) =
     IsMemory fault ⊎ IsEarly left left_after most most_after held (λ file. IsFirstStreamFault file pids fault)

@@ -6,11 +6,14 @@
 #![tactic(auto)]
 
 pub mod laws;
+mod limited_walk;
 pub mod limits;
+mod passed_elements;
 mod passed_stream;
 mod read_fault;
 mod stream_walk;
 
+pub use passed_elements::pass_elements;
 pub use passed_stream::pass_stream;
 pub use read_fault::ReadFault;
 pub use stream_walk::{StreamWalk, WalkFault};

@@ -16,7 +16,7 @@ pub use macroblock::{
     Vector,
 };
 pub use picture::{
-    B_PICTURE, BOTTOM_FIELD, FRAME_PICTURE, I_PICTURE, P_PICTURE, PicCoding, Picture, SeqState,
-    TOP_FIELD,
+    B_PICTURE, BOTTOM_FIELD, FRAME_PICTURE, I_PICTURE, P_PICTURE, PicCoding, Picture,
+    PictureParameters, SeqState, TOP_FIELD,
 };
 pub use slice::{Slice, SliceInfo};

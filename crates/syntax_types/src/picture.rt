@@ -69,6 +69,14 @@ pub struct SeqState {
     pub non_intra: [u8; 64],
 }
 
+/// What the headers leave in force for the macroblocks of a picture (6.2.2, 6.2.3): the state of the sequence, and how the
+/// picture is coded.
+#[derive(Clone, Copy)]
+pub struct PictureParameters<'a> {
+    pub seq: &'a SeqState,
+    pub coding: &'a PicCoding,
+}
+
 /// A coded picture with the headers before it, a frame or a field (6.2.2, 6.2.3).
 #[derive(Drop)]
 pub struct Picture {

@@ -32,7 +32,7 @@ use Rattle.program_reader.specs.Programs.{AreUnitSources, IsProgram, IsTakenOut,
 use Rattle.program_reader.specs.Units.{AreInOrder, AreKept, IsTimed}
 use Rattle.version_maker.specs.declared.version.UnitVersion.{UnitVersion}
 use Rattle.version_source.specs.Versions.{AreAllVersions, AreVideoVersions, ratios_of}
-use Rattle.program_table.proofs.TakenOut.{its-streams}
+use Rattle.program_reader.proofs.TakenOut.{its-streams}
 use Rattle.program_table.specs.Table.{audio_row, program_row, program_rows, unit_rows}
 use Rattle.job_programs.specs.Programs.{AreNextPrograms, IsNextProgram, last_time}
 use Rattle.mux_writer.specs.Layout.{map_pid, video_pid, with_output_pids, with_pids_from}

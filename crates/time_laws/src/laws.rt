@@ -20,6 +20,7 @@ ghost use Rattle.time_laws.specs.Clock.{IsClock, IsFirstShown};
 use clean_laws::laws::stream_is_clean;
 use job_laws::programs::{pat_leads_to_the_maps, programs_are_read_back};
 use job_laws::streams::slots_are_rows;
+use job_programs::laws::programs_of_contents_are_read;
 use layer_laws::pes::audio_packet_wherever_it_stands;
 use mux_writer::laws::read_as_written;
 use picture_heads::laws::head_without_delay_is_read;
@@ -60,6 +61,7 @@ pub fn stream_is_clean_by_its_times()
 {
     stream_carries_its_times();
     stream_is_clean();
+    programs_of_contents_are_read();
 }
 
 /// Nothing else is carried: PCRs are those of one clock, a clock first shows a time at one tick, and at a tick one time of a PES header.

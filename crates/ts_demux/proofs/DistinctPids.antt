@@ -11,7 +11,7 @@ use Rattle.ts_demux.specs.CarriedPackets.{AreDistinct}
 use Rattle.ts_demux.specs.Private.CarriedStreams.{pids_in}
 
 -- a PID that isn't among some and one more isn't among them, nor that one
-not_among : (xs : List ℕ) (p pid : ℕ) → is_among (xs ++ p ∷ []) pid ≡ false → (is_among xs pid ≡ false) × ((p == pid) ≡ false)
+pub not_among : (xs : List ℕ) (p pid : ℕ) → is_among (xs ++ p ∷ []) pid ≡ false → (is_among xs pid ≡ false) × ((p == pid) ≡ false)
 not_among [] p pid none = (refl, (or_parts (p == pid) false none).0)
 not_among (x ∷ xs) p pid none =
     let parts = or_parts (x == pid) (is_among (xs ++ p ∷ []) pid) none in
@@ -39,7 +39,8 @@ audios_apart drop_pids earlier (s ∷ streams) k pid there =
     by_test behind same true is (suc k) there = (not_among earlier s.pid pid (behind k there)).0
     by_test behind same false is k there = same k there
 
-distinct_more : (p : ℕ) (pids : List ℕ) → ((k pid : ℕ) → slice_get pids k ≡ Some pid → (p == pid) ≡ false) → AreDistinct pids → AreDistinct (p ∷ pids)
+-- a number apart from some stands before them
+pub distinct_more : (p : ℕ) (pids : List ℕ) → ((k pid : ℕ) → slice_get pids k ≡ Some pid → (p == pid) ≡ false) → AreDistinct pids → AreDistinct (p ∷ pids)
 distinct_more p pids apart distinct zero zero pid one other = refl
 distinct_more p pids apart distinct zero (suc k) pid one other =
     let same : p ≡ pid = same_Some p pid one in

@@ -15,6 +15,7 @@ pub mod CarrySteps
 pub mod CarriedSteps
 pub mod DistinctPids
 pub mod DemuxSteps
+pub mod CarriedMapSteps
 pub mod Gathering
 pub mod GatherSteps
 pub mod OneStop

@@ -32,7 +32,7 @@ use Rattle.std.proofs.Common.{
 use borrow.Rule.Slice.PartMut.{put_mid, post_of}
 use lib.Seq.{paste}
 use Rattle.std.proofs.Math.Seq.{take-add, take-append-add}
-use Rattle.std.proofs.lemmas.List.{take_at, drop-drop, drop-take, take-append-le, length-take}
+use Rattle.std.proofs.lemmas.List.{take_at, drop-append-le, drop-drop, drop-take, take-append-le, length-take}
 use Rattle.std.proofs.lemmas.List.Edits.{take-paste}
 use Rattle.shelf_io.specs.Buffer.{CopiesFront}
 use Rattle.shelf_io.specs.Source.{Takes, without_front}
@@ -124,40 +124,57 @@ at_end left after most most_after old new room takes told = by_left left takes.r
 
 -- ---- a room
 
--- a room after the first packet of what it holds was passed over
-pub passed_over : (items : List ℕ) (from to : ℕ) → 188 ≤ to - from → take (to - (from + 188)) (drop (from + 188) items) ≡ drop 188 (take (to - from) (drop from items))
-passed_over items from to some =
-    let count : to - from ≡ 188 + (to - (from + 188)) = omega arith in
-    sym (ap (λ (n : ℕ). drop 188 (take n (drop from items))) count ∙ drop-take 188 (to - (from + 188)) (drop from items)
-    ∙ ap (take (to - (from + 188))) (drop-drop 188 from items))
+-- a room after the first bytes of what it holds were passed over
+pub passed_over : (items : List ℕ) (from to n : ℕ) → n ≤ to - from → take (to - (from + n)) (drop (from + n) items) ≡ drop n (take (to - from) (drop from items))
+passed_over items from to n some =
+    let count : to - from ≡ n + (to - (from + n)) = omega arith in
+    sym (ap (λ (k : ℕ). drop n (take k (drop from items))) count ∙ drop-take n (to - (from + n)) (drop from items)
+    ∙ ap (take (to - (from + n))) (drop-drop n from items))
 
--- so many bytes are held where a packet is
-pub held_size : (items held : List ℕ) (from to : ℕ) → take (to - from) (drop from items) ≡ held → 188 ≤ length held → 188 ≤ to - from
-held_size items held from to is some = omega (arith, some, ap length is, length-take (to - from) (drop from items))
+-- how many bytes it holds at least
+pub held_size : (items held : List ℕ) (from to n : ℕ) → take (to - from) (drop from items) ≡ held → n ≤ length held → n ≤ to - from
+held_size items held from to n is some = omega (arith, some, ap length is, length-take (to - from) (drop from items))
 
--- a room whose part that is held was moved to its front, and `count` bytes came behind it
-pub held_more : (room all part : List ℕ) (from to count : ℕ) → from ≤ to → to ≤ length room → all ≡ paste room 0 (drop from room) (to - from) → count ≤ length part →
-    take (to - from + count) (put_mid (to - from) (length all - (to - from)) all part) ≡ take (to - from) (drop from room) ++ take count part
-held_more room all part from to count order within moved few =
+-- a room whose part that is held was moved to its front
+pub moved : (room all : List ℕ) (from to : ℕ) → from ≤ to → to ≤ length room → all ≡ paste room 0 (drop from room) (to - from)
+    → take (to - from) (drop 0 all) ≡ take (to - from) (drop from room)
+moved room all from to order within is =
     let left = to - from in
     let long : left ≤ length (drop from room) = omega (arith, length-drop from room) in
     let zero : left ≡ 0 + left = omega arith in
-    let front : take left all ≡ take left (drop from room) = ap (take left) moved ∙ ap (λ (k : ℕ). take k (paste room 0 (drop from room) left)) zero
-    ∙ take-paste room 0 (drop from room) left (omega arith) long in
-    let size : length (take left (drop from room)) ≡ left = length-take-le left (drop from room) long in
-    let behind : List ℕ = post_of left (length all - left) all in
-    ap (λ (f : List ℕ). take (left + count) (f ++ (part ++ behind))) front
-    ∙ ap (λ (k : ℕ). take (k + count) (take left (drop from room) ++ (part ++ behind))) (sym size)
-    ∙ take-append-add (take left (drop from room)) (part ++ behind) count
-    ∙ ap (λ (zs : List ℕ). take left (drop from room) ++ zs) (take-append-le count part behind few)
+    ap (take left) is ∙ ap (λ (k : ℕ). take k (paste room 0 (drop from room) left)) zero ∙ take-paste room 0 (drop from room) left (omega arith) long
 
-pub held_there : (items room all part held : List ℕ) (from to count : ℕ) → items ≡ put_mid (to - from) (length all - (to - from)) all part
-    → from ≤ to → to ≤ length room → all ≡ paste room 0 (drop from room) (to - from) → count ≤ length part → take (to - from) (drop from room) ≡ held →
-    take (to - from + count - 0) (drop 0 items) ≡ held ++ take count part
-held_there items room all part held from to count is order within moved few was =
-    let left : to - from + count - 0 ≡ to - from + count = omega arith in
-    ap (take (to - from + count - 0)) is ∙ ap (λ (k : ℕ). take k (put_mid (to - from) (length all - (to - from)) all part)) left
-    ∙ held_more room all part from to count order within moved few ∙ ap (λ (xs : List ℕ). xs ++ take count part) was
+-- a room that holds bytes from a place up to another, and `count` bytes came behind them
+pub held_more : (items room part : List ℕ) (from at free count : ℕ) → items ≡ put_mid at free room part → from ≤ at → at ≤ length room → count ≤ length part →
+    take (at + count - from) (drop from items) ≡ take (at - from) (drop from room) ++ take count part
+held_more items room part from at free count is order within few =
+    let left = at - from in
+    let behind : List ℕ = part ++ post_of at free room in
+    let held = take left (drop from room) in
+    let front : drop from (take at room ++ behind) ≡ held ++ behind =
+    drop-append-le from (take at room) behind (omega (arith, length-take-le at room within, order))
+    ∙ ap (λ (xs : List ℕ). xs ++ behind) (ap (λ (k : ℕ). drop from (take k room)) (omega arith) ∙ drop-take from left room) in
+    let size : length held ≡ left = length-take-le left (drop from room) (omega (arith, length-drop from room)) in
+    let all : at + count - from ≡ length held + count = omega (arith, size, order) in
+    ap (λ (xs : List ℕ). take (at + count - from) (drop from xs)) is ∙ ap (take (at + count - from)) front ∙ ap (λ (k : ℕ). take k (held ++ behind)) all
+    ∙ take-append-add held behind count ∙ ap (λ (xs : List ℕ). held ++ xs) (take-append-le count part (post_of at free room) few)
+
+-- the same where the bytes were held in a room as it was before they moved
+pub held_there : (items room now all part held : List ℕ) (from to place free count : ℕ) → items ≡ put_mid (place + (to - from)) free all part → all ≡ now → length now ≡ length room
+    → take (to - from) (drop place now) ≡ take (to - from) (drop from room) → place ≤ from → from ≤ to → to ≤ length room → count ≤ length part → take (to - from) (drop from room) ≡ held →
+    take (place + (to - from) + count - place) (drop place items) ≡ held ++ take count part
+held_there items room now all part held from to place free count is same size moved before order within few was =
+    let at = place + (to - from) in
+    held_more items all part place at free count is (omega arith) (omega (arith, ap length same, size, before, order, within)) few
+    ∙ ap (λ (xs : List ℕ). xs ++ take count part)
+    (ap (λ (k : ℕ). take k (drop place all)) (omega arith) ∙ ap (λ (xs : List ℕ). take (to - from) (drop place xs)) same ∙ moved ∙ was)
+
+-- and where none came
+pub held_still : (items room now all part held : List ℕ) (from to place free : ℕ) → items ≡ put_mid (place + (to - from)) free all part → all ≡ now → length now ≡ length room
+    → take (to - from) (drop place now) ≡ take (to - from) (drop from room) → place ≤ from → from ≤ to → to ≤ length room → take (to - from) (drop from room) ≡ held →
+    take (place + (to - from) - place) (drop place items) ≡ held
+held_still items room now all part held from to place free is same size moved before order within was =
+    ap (λ (k : ℕ). take k (drop place items)) (omega arith) ∙ held_there items room now all part held from to place free 0 is same size moved before order within (omega arith) was ∙ append-nil held
 
 -- a call of the source that takes into the room behind what is held
 pub passes_more : (left after : Option (List ℕ)) (most most_after : ℕ) (held old new held_after : List ℕ) (count : ℕ) → count ≤ length new
@@ -168,3 +185,15 @@ passes_more left after most most_after held old new held_after count few takes t
   taken = taken_once left after most most_after old new count few takes told;
   in_order = sym is;
 }
+
+-- a call of the source that takes nothing
+pub passes_still : (left after : Option (List ℕ)) (most most_after : ℕ) (held held_after : List ℕ) → (after ≡ left) × (most_after ≡ most) → held_after ≡ held
+    → Passes left after most most_after held [] held_after
+unfolding passes_none
+passes_still left after most most_after held held_after same is =
+    let none = passes_none left most held in
+    record {
+      bytes = [];
+      taken = subst (λ (a : Option (List ℕ)). IsTakenFrom left a most most_after []) (sym same.0) (subst (λ (m : ℕ). IsTakenFrom left left most m []) (sym same.1) none.taken);
+      in_order = none.in_order ∙ sym is;
+    }

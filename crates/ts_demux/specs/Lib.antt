@@ -1,10 +1,12 @@
 pub mod PacketBuffer
+pub mod SourceBuffer
 pub mod Payloads
 pub mod Faults
 pub mod Streams
 pub mod Tables
 pub mod Demux
 pub mod Pass
+pub mod CarriedMap
 pub mod CarriedPackets
 pub mod PidPlaces
 pub mod SectionReader

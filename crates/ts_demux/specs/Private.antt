@@ -4,3 +4,4 @@ pub mod TableWalk
 pub mod PesGatherer
 pub mod StreamWalk
 pub mod CarriedStreams
+pub mod CarriedMap

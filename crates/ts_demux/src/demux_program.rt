@@ -1,29 +1,25 @@
-ghost use Rattle.std.specs.Prelude.{◌≡◌, ◌≤◌, ◌^◌, ◌⊎◌, map, [], ◌∷◌, ◌++◌, length, MatchResult, IfErr, IfOk};
+ghost use Rattle.std.specs.Prelude.{◌≡◌, ◌≤◌, ◌^◌, map, [], length, MatchResult, IfErr, IfOk};
 ghost use Rattle.ts_demux.specs.declared.demux_fault.DemuxFault.TheVariants.{OutOfMemory};
 ghost use Rattle.ts_demux.specs.Demux.{IsDemuxed, IsDemuxRefused};
 ghost use Rattle.ts_demux.specs.CarriedPackets.{AreDistinct};
-ghost use Rattle.ts_demux.specs.Pass.{HasMapOf, IsFrontRefused};
+ghost use Rattle.ts_demux.specs.CarriedMap.{HasStreams};
 ghost use Rattle.ts_demux.specs.Private.PesGatherer.{stream_gathered};
 ghost use Rattle.ts_demux.specs.Private.StreamWalk.{AreGathered, IsGatherFault};
 ghost use Rattle.ts_demux.specs.Faults.{IsMemory};
 
-use crate::carried_streams::carry_streams;
+use crate::carried_map::read_streams;
+use crate::carried_streams::CarriedStreams;
 use crate::demux_fault::DemuxFault;
 use crate::demuxed::{AudioStream, Demuxed};
-use crate::map_pass::read_map;
 use crate::packet_buffer::PacketBuffer;
 use crate::pass_fault::PassFault;
 use crate::pes_gatherer::PesGatherer;
 use crate::stream_walk::gather_streams;
 use list_types::ListOf;
-use psi_tables::{PACKET_SECTION_BYTES, ProgramMap, Stream, pmt_length};
+use psi_tables::Stream;
 use shelf_io::{SOURCE_BYTES_MOST, SliceSource};
 use std::alloc::Global;
-use stream_constants::limits::AUDIOS_MOST;
 use stream_constants::packets::PACKET_BYTES;
-
-/// The most streams that are carried: the video and the audio streams.
-const STREAMS_CARRIED: usize = 1 + AUDIOS_MOST;
 
 /// The bytes that are taken from a file in memory at once: sixteen packets, which stay in the nearest cache.
 const ROOM_BYTES: usize = 16 * PACKET_BYTES;
@@ -39,20 +35,10 @@ pub fn demux(alloc: Global, file: &[u8], program: u16, drop: &[u16]) -> Result<D
         return Err(DemuxFault::OutOfMemory);
     }
     let mut buffer = PacketBuffer::new(vec![in alloc; 0u8; ROOM_BYTES]?);
-    let whole = match map_in(&mut buffer, file, program) {
-        Ok(whole) => whole,
-        Err(fault) => return Err(fault),
-    };
-    let carried = match carry_streams(alloc, whole, drop) {
+    let carried = match streams_in(alloc, &mut buffer, file, program, drop) {
         Ok(carried) => carried,
         Err(fault) => return Err(fault),
     };
-    if carried.map.streams.len() > STREAMS_CARRIED {
-        return Err(DemuxFault::ProgramLimit { at: 0 });
-    }
-    if pmt_length(&carried.map) > PACKET_SECTION_BYTES {
-        return Err(DemuxFault::PmtTooLong { at: 0 });
-    }
     let streams = carried.map.streams.as_slice();
     let gatherers = match gather_in(alloc, &mut buffer, file, streams) {
         Ok(gatherers) => gatherers,
@@ -72,14 +58,20 @@ pub fn demux(alloc: Global, file: &[u8], program: u16, drop: &[u16]) -> Result<D
     })
 }
 
-/// The map of a program of a file, as `read_map` reads it of a source.
-fn map_in(buffer: &mut PacketBuffer, file: &[u8], program: u16) -> Result<ProgramMap, DemuxFault>
+/// The carried streams of a program of a file, as `read_streams` reads them of a source.
+fn streams_in(
+    alloc: Global,
+    buffer: &mut PacketBuffer,
+    file: &[u8],
+    program: u16,
+    drop: &[u16],
+) -> Result<CarriedStreams, DemuxFault>
     requires few { length file.now ≤ 2 ^ 60 }
     requires empty { buffer.old ≡ [] }
-    ensures { MatchResult result (λ map. HasMapOf program map file.now) (λ fault. IsMemory fault ⊎ IsFrontRefused program fault file.now) }
+    ensures { MatchResult result (λ carried. HasStreams program drop.now carried file.now) (IsDemuxRefused file.now program drop.now) }
 {
-    match read_map(buffer, &mut SliceSource::new(file), program) {
-        Ok(map) => Ok(map),
+    match read_streams(alloc, buffer, &mut SliceSource::new(file), program, drop) {
+        Ok(carried) => Ok(carried),
         Err(PassFault::Refused(fault)) => Err(fault),
         Err(PassFault::Outside(_)) => Err(DemuxFault::OutOfMemory),
     }

@@ -10,6 +10,7 @@
 //! Stands on `shelf_io`, `ts_packets`, `psi_tables` and `pes_units`.
 #![tactic(auto)]
 
+mod carried_map;
 mod carried_packets;
 mod carried_streams;
 mod demux_fault;
@@ -26,10 +27,13 @@ mod pes_gatherer;
 mod pid_places;
 mod placed_map;
 mod section_reader;
+mod source_buffer;
 mod stream_walk;
 mod table_walk;
 
+pub use carried_map::read_streams;
 pub use carried_packets::{CarriedPackets, CarriedPid, StreamPayload};
+pub use carried_streams::CarriedStreams;
 pub use demux_fault::DemuxFault;
 pub use demux_program::demux;
 pub use demuxed::{AudioStream, Demuxed, PesUnit};
@@ -40,4 +44,5 @@ pub use pass_fault::PassFault;
 pub use payloads::Payloads;
 pub use pid_places::{Place, PlaceReader, places};
 pub use placed_map::{PlacedMap, find_map};
+pub use source_buffer::SourceBuffer;
 pub use table_walk::TableWalk;

@@ -1,8 +1,9 @@
-ghost use Rattle.std.specs.Prelude.{◌≡◌, ◌+◌, ◌<◌, ◌≤◌, [], Ok, length, take, drop, IfOk, IfNone, IfSome, OnOk, IsErrOf};
+ghost use Rattle.std.specs.Prelude.{◌≡◌, ◌<◌, ◌≤◌, [], length, take, drop, IfNone, IfSome, OnOk, IsErrOf};
 ghost use Rattle.stream_constants.specs.declared.packets.TheConstants.{PACKET_BYTES};
 ghost use Rattle.shelf_io.specs.Causes.{SourceCauses};
 ghost use Rattle.ts_demux.specs.PacketBuffer.{Passes, IsAtEnd};
 
+use crate::source_buffer::SourceBuffer;
 use shelf_io::{Fault, Source};
 use std::marker::Model;
 use stream_constants::packets::PACKET_BYTES;
@@ -12,21 +13,18 @@ use stream_constants::packets::PACKET_BYTES;
 /// Contracts see the bytes that were taken from it and aren't passed yet.
 #[derive(Drop)]
 pub struct PacketBuffer {
-    room: Vec<u8>,
-    /// The bytes that aren't passed yet stand in the room from here on.
-    from: usize,
-    /// They stand up to here.
-    to: usize,
+    bytes: SourceBuffer,
 }
 
 impl Model for PacketBuffer {
-    ghost use Rattle.std.specs.Prelude.{ℕ, List, length, take, drop, ◌-◌, ◌≤◌};
+    ghost use Rattle.std.specs.Prelude.{ℕ, List, ◌≤◌};
+    ghost use Rattle.ts_demux.specs.SourceBuffer.{held_bytes, room_size};
 
     ghost Value = { List ℕ };
 
-    ghost view = { λ a. take (a.to - a.from) (drop a.from a.room.items) };
+    ghost view = { λ a. held_bytes a.bytes };
 
-    ghost invariant = { λ a. (a.from ≤ a.to) × (a.to ≤ length a.room.items) × (188 ≤ length a.room.items) };
+    ghost invariant = { λ a. 188 ≤ room_size a.bytes };
 }
 
 impl PacketBuffer {
@@ -35,10 +33,9 @@ impl PacketBuffer {
         requires { PACKET_BYTES ≤ length room.items }
         ensures { result ≡ [] }
     {
+        let size = room.len();
         PacketBuffer {
-            room,
-            from: 0,
-            to: 0,
+            bytes: SourceBuffer::new(room, size),
         }
     }
 
@@ -46,15 +43,14 @@ impl PacketBuffer {
     pub fn clear(&mut self)
         ensures { self.new ≡ [] }
     {
-        self.from = 0;
-        self.to = 0;
+        self.bytes.clear();
     }
 
     /// The bytes that were taken from the source and aren't passed yet: at its end those behind the last whole packet.
     pub fn rest(&self) -> &[u8]
         ensures { result.now ≡ self.now }
     {
-        &self.room[self.from..self.to]
+        self.bytes.rest()
     }
 
     /// Takes from the source until a packet is whole, or the source ends. A fault is the source's; nothing that was taken is
@@ -65,13 +61,7 @@ impl PacketBuffer {
         ensures causes { SourceCauses S.faults S.absences (IsErrOf result Fault.Failed) (IsErrOf result Fault.Missing) source.old source.new }
         ensures keeps { S.keeps source.old source.new }
     {
-        while self.held() < PACKET_BYTES {
-            let count = self.take_some(source)?;
-            if count == 0 {
-                return Ok(());
-            }
-        }
-        Ok(())
+        self.bytes.fill(source, PACKET_BYTES)
     }
 
     /// The packet that stands first, where it is whole.
@@ -79,7 +69,7 @@ impl PacketBuffer {
         ensures some { IfSome result (λ packet. (PACKET_BYTES ≤ length self.now) × (packet.now ≡ take PACKET_BYTES self.now)) }
         ensures none { IfNone result (length self.now < PACKET_BYTES) }
     {
-        self.room[self.from..self.to].first_chunk()
+        self.bytes.rest().first_chunk()
     }
 
     /// Passes over the packet that stands first.
@@ -87,30 +77,6 @@ impl PacketBuffer {
         requires { PACKET_BYTES ≤ length self.old }
         ensures { self.new ≡ drop PACKET_BYTES self.old }
     {
-        self.from += PACKET_BYTES;
-    }
-
-    /// How many bytes aren't passed yet.
-    fn held(&self) -> usize
-        ensures { result ≡ length self.now }
-    {
-        self.to - self.from
-    }
-
-    /// Takes from the source once, and answers how many bytes: none only at its end.
-    fn take_some<S: Source>(&mut self, source: &mut S) -> Result<usize, Fault>
-        requires { length self.old < PACKET_BYTES }
-        ensures count { IfOk result (λ n. length self.new ≡ length self.old + n) }
-        ensures end { result ≡ Ok 0 → IsAtEnd (S.left source.new) }
-        ensures passes { Passes (S.left source.old) (S.left source.new) (S.most source.old) (S.most source.new) self.old [] self.new }
-        ensures causes { SourceCauses S.faults S.absences (IsErrOf result Fault.Failed) (IsErrOf result Fault.Missing) source.old source.new }
-        ensures keeps { S.keeps source.old source.new }
-    {
-        self.room.as_mut_slice().copy_within(self.from..self.to, 0);
-        self.to -= self.from;
-        self.from = 0;
-        let count = source.take(&mut self.room[self.to..])?;
-        self.to += count;
-        Ok(count)
+        self.bytes.pass(PACKET_BYTES);
     }
 }

@@ -3,19 +3,8 @@
 use crate::sections::{PAT, PMT};
 use std::alloc::{AllocError, Global};
 use stream_constants::packets::{PACKET_BYTES, SYNC_BYTE};
+use test_packets::{MAP_PID, PAT_PID, file_of, packet, table};
 use ts_demux::{DemuxFault, PesUnit, demux};
-
-/// The PIDs of the files: that of the PAT, and those of the map, the video and the audio of program 1.
-pub const PAT_PID: u16 = 0;
-
-pub const MAP_PID: u16 = 256;
-
-pub const VIDEO_PID: u16 = 257;
-
-pub const AUDIO_PID: u16 = 258;
-
-/// What fills a packet behind what is said of it.
-pub const FILL: u8 = 0xFF;
 
 /// A packet that begins a section or PES packet: its PID, its counter, and what its payload begins with.
 pub fn begins(pid: u16, counter: u8, payload: &[u8]) -> [u8; PACKET_BYTES] {
@@ -27,12 +16,6 @@ pub fn begins(pid: u16, counter: u8, payload: &[u8]) -> [u8; PACKET_BYTES] {
 pub fn goes_on(pid: u16, counter: u8, payload: &[u8]) -> [u8; PACKET_BYTES] {
     let [high, low] = pid.to_be_bytes();
     packet([SYNC_BYTE, high, low, 0x10 | counter], &[], payload)
-}
-
-/// One with a section in its payload, behind a pointer of 0.
-pub fn table(pid: u16, counter: u8, section: &[u8]) -> [u8; PACKET_BYTES] {
-    let [high, low] = pid.to_be_bytes();
-    packet([SYNC_BYTE, 0x40 | high, low, 0x10 | counter], &[0], section)
 }
 
 /// One that begins none, with an adaptation field: the field with its length byte, and what the payload begins with.
@@ -47,16 +30,6 @@ pub fn without_payload(pid: u16, counter: u8, flags: u8) -> [u8; PACKET_BYTES] {
     packet([SYNC_BYTE, high, low, 0x20 | counter], &[183, flags], &[])
 }
 
-/// A packet of these parts, filled.
-fn packet(header: [u8; 4], front: &[u8], behind: &[u8]) -> [u8; PACKET_BYTES] {
-    let mut bytes = [FILL; PACKET_BYTES];
-    let parts = header.iter().chain(front).chain(behind);
-    for (to, from) in bytes.iter_mut().zip(parts) {
-        *to = *from;
-    }
-    bytes
-}
-
 /// The packet of program 1's PAT.
 pub fn pat() -> [u8; PACKET_BYTES] {
     table(PAT_PID, 0, &PAT)
@@ -65,15 +38,6 @@ pub fn pat() -> [u8; PACKET_BYTES] {
 /// That of its PMT.
 pub fn pmt() -> [u8; PACKET_BYTES] {
     table(MAP_PID, 0, &PMT)
-}
-
-/// The bytes of a file of these packets.
-pub fn file_of(alloc: Global, packets: &[[u8; PACKET_BYTES]]) -> Result<Vec<u8>, AllocError> {
-    let mut file = Vec::new(alloc);
-    for packet in packets {
-        file.extend_from_slice(packet)?;
-    }
-    Ok(file)
 }
 
 /// The packets of a file behind others, and what `demux` refuses program 1 there for, with no stream dropped.

@@ -2,6 +2,7 @@
 
 use crate::files::*;
 use std::test::Fail;
+use test_packets::{AUDIO_PID, PAT_PID, VIDEO_PID};
 use ts_demux::DemuxFault;
 
 #[test]

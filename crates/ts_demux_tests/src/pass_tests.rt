@@ -7,6 +7,7 @@ use shelf_kinds::{CalmShelf, MemShelf, ShortShelf};
 use std::alloc::{AllocError, Global};
 use std::test::Fail;
 use stream_constants::packets::PACKET_BYTES;
+use test_packets::{VIDEO_PID, file_of};
 use ts_demux::{PacketBuffer, demux, read_map};
 
 /// How many bytes a call gives at most: parts of a packet, one, and all.

@@ -5,6 +5,7 @@ use crate::sections::*;
 use std::alloc::{AllocError, Global};
 use std::test::Fail;
 use stream_constants::packets::PACKET_BYTES;
+use test_packets::{AUDIO_PID, MAP_PID, VIDEO_PID, file_of, table};
 use ts_demux::{DemuxFault, Demuxed, demux};
 
 /// PAT, PMT, a video packet that begins a PES packet, the same again, an audio packet, a video packet, and three bytes.

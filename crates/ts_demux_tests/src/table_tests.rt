@@ -4,6 +4,7 @@ use crate::files::*;
 use crate::sections::*;
 use std::test::Fail;
 use stream_constants::packets::PACKET_BYTES;
+use test_packets::{AUDIO_PID, MAP_PID, PAT_PID, VIDEO_PID, file_of, table};
 use ts_demux::{DemuxFault, demux};
 
 /// The PMT of 184 bytes but its last one.

@@ -1,11 +1,10 @@
 -- Worked examples of PES headers and of MB's size, computed from the definitions; the instants are worked out by hand.
-use Rattle.std.proofs.Common.{◌≡◌, ℕ, zero, suc, ◌+◌, ◌*◌, ◌≤◌, List, [], ◌∷◌, ◌++◌, map, refl, arith, Option, Some, None}
+use Rattle.std.proofs.Common.{◌≡◌, ℕ, zero, suc, ◌+◌, ◌*◌, ◌≤◌, List, [], ◌∷◌, ◌++◌, map, refl, arith, Some, None}
 use Rattle.tstd_model.specs.Instants.{spaced, departures, departures_into}
 use Rattle.tstd_model.specs.PacketBytes.{Arrival, parts_of, parts, arrives_in, arrives, kept, with_headers}
-use Rattle.tstd_model.specs.Decoder.{BufferKind, Video, Audio, Removal, bytes_in, leave_tb, payload_passes, data_passes, removed, moves, eb_rooms, multiplexing_buffer, elementary_buffer}
-use Rattle.tstd_model.specs.Faults.{TstdFault, Overflow, Late, IsFirstOrNone}
+use Rattle.tstd_model.specs.Decoder.{Video, Audio, bytes_in, leave_tb, payload_passes, data_passes, removed, moves, eb_rooms, multiplexing_buffer, elementary_buffer}
+use Rattle.tstd_model.specs.Faults.{Overflow, Late, IsFirstOrNone}
 use Rattle.tstd_model.specs.Private.Scans.{first_over, first_late, is_held, first_old, taken_from}
-use Rattle.tstd_model.specs.Private.Walks.{IsEarliest, late_found, excess_found, old_found}
 use Rattle.tstd_model.proofs.RisingLaws.{Rising}
 use Rattle.tstd_model.proofs.FaultLaws.{first_fault-rises}
 use Rattle.tstd_model.proofs.Examples.{packet, removal, Decided}

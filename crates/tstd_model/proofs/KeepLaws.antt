@@ -1,6 +1,6 @@
 -- Lists of instants of which one stays below the other, over plain lists.
-use Rattle.std.proofs.Common.{◌≡◌, ℕ, zero, suc, ◌+◌, ◌-◌, ◌*◌, ◌<◌, ◌≤◌, List, [], ◌∷◌, ◌++◌, length, drop, map, replicate, max, refl, sym, ◌∙◌, ap, subst, arith, inl, inr, Bool, true, false, Option, Some, None}
-use Rattle.std.proofs.lemmas.Bool.{cases_Bool, cond-true, cond-false, le-leb, lt-leb, lt-ltb, le-ltb}
+use Rattle.std.proofs.Common.{◌≡◌, ℕ, zero, suc, ◌+◌, ◌*◌, ◌<◌, ◌≤◌, List, [], ◌∷◌, ◌++◌, length, drop, map, replicate, max, refl, ◌∙◌, subst, arith, inl, inr, Bool, false, None}
+use Rattle.std.proofs.lemmas.Bool.{cases_Bool, cond-true, cond-false, lt-ltb, le-ltb}
 use Rattle.tstd_model.specs.Instants.{departures, departures_into}
 use Rattle.tstd_model.specs.PacketBytes.{PacketPart, Overhead, PesHeader, Data, kept, with_headers}
 use Rattle.tstd_model.specs.Private.Keeps.{Keeps, EachAtLeast}

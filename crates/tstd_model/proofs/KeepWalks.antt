@@ -1,5 +1,5 @@
 -- What surely keeps its limits has no fault.
-use Rattle.std.proofs.Common.{◌≡◌, ℕ, ◌+◌, ◌-◌, ◌*◌, ◌≤◌, List, ◌++◌, drop, map, replicate, refl, sym, ◌∙◌, ap, subst, arith, Bool, Option, Some, None, length}
+use Rattle.std.proofs.Common.{◌≡◌, ℕ, ◌-◌, ◌*◌, List, ◌++◌, drop, map, replicate, sym, ◌∙◌, ap, subst, arith, Bool, None}
 use Rattle.stream_constants.specs.declared.decoder.TheConstants.{TB_BYTES, MB_SUBTICKS, VIDEO_BYTES, AUDIO_BYTES}
 use Rattle.tstd_model.specs.declared.passing.Wanted.TheVariants.{Payload, DataAlone}
 use Rattle.tstd_model.specs.Instants.{departures, departures_into}
@@ -8,7 +8,7 @@ use Rattle.tstd_model.specs.Decoder.{BufferKind, Video, Audio, Removal, tb_subti
 use Rattle.tstd_model.specs.Faults.{hold_subticks}
 use Rattle.tstd_model.specs.Private.Cursors.{is_wanted}
 use Rattle.tstd_model.specs.Private.Keeps.{Keeps}
-use Rattle.tstd_model.specs.Private.Scans.{RemovedByte, taken_from}
+use Rattle.tstd_model.specs.Private.Scans.{taken_from}
 use Rattle.tstd_model.specs.Private.Walks.{main_buffer, first_excess, late_found, old_found}
 use Rattle.tstd_model.proofs.CursorLaws.{taken-instants}
 use Rattle.tstd_model.proofs.KeepLaws.{keeps-through, keeps-kept, keeps-comes, keeps-drop, keeps-steps, over-none, late-none, old-none}

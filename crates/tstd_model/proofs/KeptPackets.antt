@@ -1,12 +1,10 @@
 -- What packets bring, packet by packet: how many bytes, and how late they are at most.
-use Rattle.std.proofs.Common.{◌≡◌, ℕ, zero, suc, ◌+◌, ◌-◌, ◌*◌, ◌<◌, ◌≤◌, List, [], ◌∷◌, ◌++◌, length, drop, replicate, max, refl, sym, ◌∙◌, ap, subst, arith, inl, inr, Bool, true, false, length-append, All, min}
+use Rattle.std.proofs.Common.{◌≡◌, ℕ, zero, suc, ◌+◌, ◌-◌, ◌*◌, ◌<◌, ◌≤◌, List, [], ◌∷◌, ◌++◌, length, drop, replicate, max, refl, sym, ◌∙◌, ap, subst, arith, inl, inr, Bool, true, false, min}
 use Rattle.std.proofs.lemmas.Bool.{cases_Bool, cond-true, cond-false}
-use Rattle.std.proofs.lemmas.List.{append_assoc, length-drop, length-replicate}
-use Rattle.std.proofs.lemmas.List.Elements.{All-head, All-tail}
+use Rattle.std.proofs.lemmas.List.{append_assoc, length-drop}
 use Rattle.std.proofs.lemmas.Nat.{mul-le}
 use Rattle.stream_constants.specs.declared.clock.TheConstants.{SUBTICKS_PER_TICK}
 use Rattle.stream_constants.specs.declared.packets.TheConstants.{PACKET_BYTES}
-use Rattle.stream_constants.specs.declared.decoder.TheConstants.{TB_BYTES}
 use Rattle.tstd_model.specs.declared.passing.Wanted.{Wanted}
 use Rattle.tstd_model.specs.declared.passing.Wanted.TheVariants.{Payload, DataAlone}
 use Rattle.tstd_model.specs.Decoder.{Removal, removed}
@@ -15,7 +13,7 @@ use Rattle.tstd_model.specs.PacketBytes.{Arrival, HasHeaderWithin, PacketPart, O
 use Rattle.tstd_model.specs.Private.Cursors.{is_wanted}
 use Rattle.tstd_model.specs.Private.Keeps.{Keeps, EachAtLeast, wanted_count, tb_end}
 use Rattle.tstd_model.specs.Private.Server.{EachAtMost, last_departure}
-use Rattle.tstd_model.proofs.Bounds.{kept-most, length-arrives}
+use Rattle.tstd_model.proofs.Bounds.{kept-most}
 use Rattle.tstd_model.proofs.CursorLaws.{length-parts_of}
 use Rattle.tstd_model.proofs.KeepLaws.{keeps-same, keeps-through, keeps-least, keeps-most, keeps-front, keeps-departures, keeps-kept, keeps-headers}
 use Rattle.tstd_model.proofs.RisingLaws.{length-spaced}
@@ -296,43 +294,14 @@ with_headers-none packet later moves no_data no_header =
     ∙ ap (λ n. with_headers (replicate n PesHeader ++ (replicate d Data ++ parts later)) moves) none'
     ∙ ap (λ n. with_headers (replicate n Data ++ parts later) moves) none
 
--- ---- no packets
-pub arrives-end : (gap delay slot : ℕ) (wanted : Wanted) (packets : List Arrival) (lows : List ℕ) → packets ≡ [] → Keeps gap delay (kept (is_wanted wanted) (parts packets) (arrives slot packets)) lows
-unfolding parts arrives kept
-arrives-end gap delay slot wanted packets lows end =
-    subst (λ l. Keeps gap delay (kept (is_wanted wanted) (parts l) (arrives slot l)) lows) (sym end) tt
-
-pub tb-end : (delay s slot before : ℕ) (packets : List Arrival) → packets ≡ [] → Keeps 0 delay (arrives slot packets) (departures s before (arrives slot packets))
-unfolding arrives departures
-tb-end delay s slot before packets end = subst (λ l. Keeps 0 delay (arrives slot l) (departures s before (arrives slot l))) (sym end) tt
-
 -- ---- removals
-pub removed-end : (gap delay : ℕ) (removals : List Removal) (lows : List ℕ) → removals ≡ [] → Keeps gap delay (removed removals) lows
+pub removed-nil : removed [] ≡ []
 unfolding removed
-removed-end gap delay removals lows end = subst (λ l. Keeps gap delay (removed l) lows) (sym end) tt
+removed-nil = refl
 
 pub removed-first : (removal : Removal) (later : List Removal) → removed (removal ∷ later) ≡ replicate removal.bytes (SUBTICKS_PER_TICK * removal.due) ++ removed later
 unfolding removed
 removed-first removal later = refl
-
-each-at : (n at : ℕ) → EachAtLeast at (replicate n at)
-each-at zero at = tt
-each-at (suc n) at = (omega arith, each-at n at)
-
-pub removed-kept : (gap most : ℕ) (removal : Removal) (later : List Removal) (lows : List ℕ) → most + gap ≤ SUBTICKS_PER_TICK * removal.due → Keeps gap 0 (removed later) lows
-    → Keeps gap 0 (removed (removal ∷ later)) (replicate removal.bytes most ++ lows)
-removed-kept gap most removal later lows le keeps =
-    let due = SUBTICKS_PER_TICK * removal.due in
-    subst (λ l. Keeps gap 0 l (replicate removal.bytes most ++ lows)) (sym (removed-first removal later))
-    (keeps-least gap 0 due most removal.bytes (replicate removal.bytes due) (removed later) lows (length-replicate removal.bytes due) (each-at removal.bytes due) (omega arith) keeps)
-
-pub removed-run : (removal : Removal) (later : List Removal) (count at : ℕ) → count ≡ removal.bytes → at ≡ SUBTICKS_PER_TICK * removal.due
-    → Keeps 0 0 (replicate count at ++ removed later) (removed (removal ∷ later))
-removed-run removal later count at count_is at_is =
-    let same : replicate count at ++ removed later ≡ removed (removal ∷ later) =
-    ap (λ n. replicate n at ++ removed later) count_is ∙ ap (λ n. replicate removal.bytes n ++ removed later) at_is ∙ sym (removed-first removal later)
-    in
-    subst (λ l. Keeps 0 0 (replicate count at ++ removed later) l) same (keeps-same (replicate count at ++ removed later))
 
 pub removed-none : (removal : Removal) (later : List Removal) → removal.bytes ≤ 0 → removed (removal ∷ later) ≡ removed later
 removed-none removal later none =

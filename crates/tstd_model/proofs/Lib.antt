@@ -8,6 +8,8 @@ pub mod FaultLaws
 pub mod HeaderExamples
 pub mod KeepLaws
 pub mod KeepWalks
+pub mod WatchGoes
+pub mod WatchLaws
 pub mod KeptPackets
 pub mod LateLaws
 pub mod Limits

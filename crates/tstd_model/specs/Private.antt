@@ -1,6 +1,10 @@
 pub mod Cursors
 pub mod Keeps
 pub mod Limits
+pub mod Rooms
+pub mod Runs
 pub mod Scans
 pub mod Server
+pub mod Sure
 pub mod Walks
+pub mod Watches

@@ -3,7 +3,7 @@ ghost use Rattle.std.specs.List.{All};
 ghost use Rattle.std.specs.List.Sorted.{IsStrictlyIncreasing, IsNonDecreasing};
 ghost use Rattle.stream_constants.specs.declared.decoder.TheConstants.{TB_BYTES, VIDEO_BYTES, AUDIO_BYTES, SYSTEM_BYTES};
 ghost use Rattle.tstd_model.specs.PacketBytes.{HasHeaderWithin, parts, arrives, kept};
-ghost use Rattle.tstd_model.specs.Decoder.{Video, tb_subticks, IsInLevel, leave_tb, transport_buffer, eb_bytes, moves, removed};
+ghost use Rattle.tstd_model.specs.Decoder.{Video, IsInLevel, leave_tb, transport_buffer, moves};
 ghost use Rattle.tstd_model.specs.Faults.{IsFirstOrNone};
 ghost use Rattle.tstd_model.specs.Private.Cursors.{instants_of, parts_in, is_wanted};
 ghost use Rattle.tstd_model.specs.Private.Limits.{InLimits};
@@ -13,22 +13,18 @@ ghost use Rattle.tstd_model.specs.Private.Walks.{main_buffer, first_excess, late
 use crate::decoder_input::{Arrival, BufferKind, Removal};
 use crate::earliest::{earlier, earliest};
 use crate::fault::TstdFault;
-use crate::keeping::{keep_arrivals, keep_removals, keep_tb};
 use crate::leaves::{MbLeaves, SystemLeaves};
-use crate::move_runs::{MbRuns, MoveRuns};
 use crate::moves::{Moves, Rooms};
 use crate::packet_bytes::PacketBytes;
+use crate::packet_watch::PacketWatch;
 use crate::passing::{Passing, Wanted};
-use crate::passing_runs::PassingRuns;
-use crate::removal_runs::RemovalRuns;
 use crate::removed_bytes::{RemovedByte, RemovedBytes};
+use crate::sizes::{eb_bytes, tb_subticks};
+use crate::sure::Sure;
 use crate::tb_bytes::TbBytes;
 use crate::walks::{HOLD_SUBTICKS, first_late, first_old, first_over};
 use stream_constants::clock::BYTE_SUBTICKS_PER_TICK;
-use stream_constants::decoder::{
-    AUDIO_BYTES, AUDIO_TB_SUBTICKS, EB_UNIT_BYTES, SYSTEM_BYTES, SYSTEM_TB_SUBTICKS, TB_BYTES,
-    VIDEO_BYTES, VIDEO_TB_SUBTICKS,
-};
+use stream_constants::decoder::{AUDIO_BYTES, SYSTEM_BYTES, TB_BYTES, VIDEO_BYTES};
 
 /// The first fault of a decoder, or none where there is none (13818-1, 2.4.2).
 ///
@@ -58,8 +54,30 @@ pub fn first_fault(
         arrivals,
         removals,
     };
-    let over = earlier(decoder.tb_excess(), decoder.main_excess());
-    earliest(decoder.late(), over, decoder.old())
+    let sure = watched(slot, kind, arrivals, removals);
+    let over = earlier(decoder.tb_excess(sure.tb), decoder.main_excess(sure.main));
+    earliest(decoder.late(sure.found), over, decoder.old(sure.held))
+}
+
+/// What is sure of a decoder by a look at it packet by packet.
+fn watched(slot: u32, kind: BufferKind, arrivals: &[Arrival], removals: &[Removal]) -> Sure
+    requires slot_fits { slot ≤ 2 ^ 16 }
+    requires headers_within { All HasHeaderWithin arrivals.now }
+    requires dues_fit { All (λ removal. removal.due ≤ 2 ^ 53) removals.now }
+    ensures tb { IsTrue result.tb → first_excess (transport_buffer slot kind arrivals.now) ≡ None }
+    ensures main { IsTrue result.main → first_excess (main_buffer slot kind arrivals.now removals.now) ≡ None }
+    ensures found { IsTrue result.found → late_found slot kind arrivals.now removals.now ≡ None }
+    ensures held { IsTrue result.held → old_found slot kind arrivals.now removals.now ≡ None }
+{
+    let mut watch = PacketWatch::begin(slot, kind, removals);
+    let mut later = arrivals;
+    'packets: loop {
+        let Some((packet, rest)) = later.split_first() else {
+            return watch.end();
+        };
+        watch.pass(packet);
+        later = rest;
+    }
 }
 
 /// How many slots there are until behind the last packet.
@@ -80,25 +98,6 @@ fn behind(slot_no: u32) -> u64
     ensures few { result ≤ 2 ^ 32 }
 {
     u64::from(slot_no) + 1
-}
-
-/// Subticks that a byte takes to leave TB.
-fn tb_subticks(kind: BufferKind) -> u64
-    ensures value { result ≡ tb_subticks kind }
-    ensures most { result ≤ 2 ^ 20 }
-{
-    match kind {
-        BufferKind::Video { vbv: _ } => VIDEO_TB_SUBTICKS,
-        BufferKind::Audio => AUDIO_TB_SUBTICKS,
-        BufferKind::System => SYSTEM_TB_SUBTICKS,
-    }
-}
-
-/// Bytes of EB.
-fn eb_bytes(vbv: u8) -> u64
-    ensures { result ≡ eb_bytes vbv }
-{
-    EB_UNIT_BYTES * u64::from(vbv)
 }
 
 /// A decoder, what comes to it and what is removed from it.
@@ -157,130 +156,25 @@ impl<'a> SystemDecoder<'a> {
         )
     }
 
-    /// The bytes that are removed, removal by removal.
-    fn removal_runs(&self) -> RemovalRuns<'a>
-        requires { InLimits self.now }
-        ensures { result ≡ removed self.now.removals.now }
-    {
-        RemovalRuns::new(self.removals)
-    }
-
-    /// When wanted bytes come into the buffer behind TB, packet by packet.
-    fn passing_runs(&self, wanted: Wanted) -> PassingRuns<'a>
-        requires { InLimits self.now }
-        ensures { result ≡ kept (is_wanted wanted) (parts self.now.arrivals.now) (leave_tb self.now.slot self.now.kind self.now.arrivals.now) }
-    {
-        PassingRuns::new(self.slot, tb_subticks(self.kind), wanted, self.arrivals)
-    }
-
-    /// When data moves from MB to EB, packet by packet.
-    fn move_runs(&self, vbv: u8) -> MoveRuns<'a>
-        requires limits { InLimits self.now }
-        requires video { self.now.kind ≡ Video vbv }
-        ensures { result ≡ moves self.now.slot vbv self.now.arrivals.now self.now.removals.now }
-    {
-        MoveRuns::new(
-            self.passing_runs(Wanted::DataAlone),
-            eb_bytes(vbv),
-            self.removal_runs(),
-        )
-    }
-
-    /// Whether TB is surely never over its size.
-    fn tb_keeps(&self) -> bool
-        requires { InLimits self.now }
-        ensures { IsTrue result → first_excess (transport_buffer self.now.slot self.now.kind self.now.arrivals.now) ≡ None }
-    {
-        keep_tb(self.slot, tb_subticks(self.kind), self.arrivals)
-    }
-
-    /// Whether the buffer behind TB is surely never over its size.
-    fn main_keeps(&self) -> bool
-        requires { InLimits self.now }
-        ensures { IsTrue result → first_excess (main_buffer self.now.slot self.now.kind self.now.arrivals.now self.now.removals.now) ≡ None }
-    {
-        match self.kind {
-            BufferKind::Video { vbv } => {
-                let leaves = MbRuns::new(self.arrivals, self.move_runs(vbv));
-                let size = VIDEO_BYTES - eb_bytes(vbv);
-                keep_arrivals(self.slot, self.arrivals, Wanted::Payload, 0, size, leaves)
-            }
-            BufferKind::Audio => {
-                let leaves = self.removal_runs();
-                keep_arrivals(
-                    self.slot,
-                    self.arrivals,
-                    Wanted::Payload,
-                    0,
-                    AUDIO_BYTES,
-                    leaves,
-                )
-            }
-            BufferKind::System => false,
-        }
-    }
-
-    /// Whether each removal surely finds what it takes.
-    fn finds_all(&self) -> bool
-        requires { InLimits self.now }
-        ensures { IsTrue result → late_found self.now.slot self.now.kind self.now.arrivals.now self.now.removals.now ≡ None }
-    {
-        match self.kind {
-            BufferKind::Video { vbv } => keep_removals(self.removals, self.move_runs(vbv)),
-            BufferKind::Audio => keep_removals(self.removals, self.passing_runs(Wanted::Payload)),
-            BufferKind::System => false,
-        }
-    }
-
-    /// Whether surely no byte is held past the limit.
-    fn holds_none(&self) -> bool
-        requires { InLimits self.now }
-        ensures { IsTrue result → old_found self.now.slot self.now.kind self.now.arrivals.now self.now.removals.now ≡ None }
-    {
-        match self.kind {
-            BufferKind::Video { vbv: _ } => {
-                let leaves = self.removal_runs();
-                keep_arrivals(
-                    self.slot,
-                    self.arrivals,
-                    Wanted::DataAlone,
-                    HOLD_SUBTICKS,
-                    0,
-                    leaves,
-                )
-            }
-            BufferKind::Audio => {
-                let leaves = self.removal_runs();
-                keep_arrivals(
-                    self.slot,
-                    self.arrivals,
-                    Wanted::Payload,
-                    HOLD_SUBTICKS,
-                    0,
-                    leaves,
-                )
-            }
-            BufferKind::System => false,
-        }
-    }
-
     /// The first instant at which TB is over its size.
-    fn tb_excess(&self) -> Option<u64>
-        requires { InLimits self.now }
+    fn tb_excess(&self, sure: bool) -> Option<u64>
+        requires limits { InLimits self.now }
+        requires sure { IsTrue sure → first_excess (transport_buffer self.now.slot self.now.kind self.now.arrivals.now) ≡ None }
         ensures { result ≡ first_excess (transport_buffer self.now.slot self.now.kind self.now.arrivals.now) }
     {
-        if self.tb_keeps() {
+        if sure {
             return None;
         }
         first_over(TB_BYTES, self.bytes(), self.tb_bytes())
     }
 
     /// The first instant at which the buffer behind TB is over its size.
-    fn main_excess(&self) -> Option<u64>
-        requires { InLimits self.now }
+    fn main_excess(&self, sure: bool) -> Option<u64>
+        requires limits { InLimits self.now }
+        requires sure { IsTrue sure → first_excess (main_buffer self.now.slot self.now.kind self.now.arrivals.now self.now.removals.now) ≡ None }
         ensures { result ≡ first_excess (main_buffer self.now.slot self.now.kind self.now.arrivals.now self.now.removals.now) }
     {
-        if self.main_keeps() {
+        if sure {
             return None;
         }
         let comes = self.passing(Wanted::Payload);
@@ -298,11 +192,12 @@ impl<'a> SystemDecoder<'a> {
     }
 
     /// The first byte that a removal doesn't find.
-    fn late(&self) -> Option<RemovedByte>
-        requires { InLimits self.now }
+    fn late(&self, sure: bool) -> Option<RemovedByte>
+        requires limits { InLimits self.now }
+        requires sure { IsTrue sure → late_found self.now.slot self.now.kind self.now.arrivals.now self.now.removals.now ≡ None }
         ensures { result ≡ late_found self.now.slot self.now.kind self.now.arrivals.now self.now.removals.now }
     {
-        if self.finds_all() {
+        if sure {
             return None;
         }
         match self.kind {
@@ -313,11 +208,12 @@ impl<'a> SystemDecoder<'a> {
     }
 
     /// The first instant past the limit at which a byte is held.
-    fn old(&self) -> Option<u64>
-        requires { InLimits self.now }
+    fn old(&self, sure: bool) -> Option<u64>
+        requires limits { InLimits self.now }
+        requires sure { IsTrue sure → old_found self.now.slot self.now.kind self.now.arrivals.now self.now.removals.now ≡ None }
         ensures { result ≡ old_found self.now.slot self.now.kind self.now.arrivals.now self.now.removals.now }
     {
-        if self.holds_none() {
+        if sure {
             return None;
         }
         match self.kind {

@@ -4,7 +4,7 @@ use Rattle.std.specs.Prelude.{slice_range}
 use Rattle.std.specs.List.{AllZip}
 use Rattle.std.proofs.lemmas.List.Elements.{All-cons, All-head, All-nil, All-tail}
 use Rattle.bit_lists.specs.Fields.{AreBytes, bit_list}
-use Rattle.bit_lists.proofs.ByteLemmas.{AreBytes-append, AreBytes-take}
+use Rattle.bit_lists.proofs.ByteLemmas.{AreBytes-append, AreBytes-take, AreBytes-drop}
 use Rattle.syntax_types.specs.declared.picture.Picture.{Picture}
 use Rattle.syntax_types.specs.declared.picture.SeqState.{SeqState}
 use Rattle.es_units.specs.StartCodes.{has_code, is_sequence_header}
@@ -29,7 +29,7 @@ use Rattle.unit_laws.proofs.Codes.{CodeOf}
 use Rattle.unit_laws.proofs.CodesInOrder.{codes-in-order}
 use Rattle.unit_laws.proofs.SourceUnits.{AreSpans, IsSourceUnit, IsSpan, cut-spans, led-unit, source-unit}
 use Rattle.unit_laws.proofs.SpelledVersions.{coarser-spelled, source-spelled, without_delay}
-use Rattle.unit_laws.proofs.WholeVersions.{AreBytes-behind, AreBytes-drop, HasParts, begins-alike, has-parts, whole-version}
+use Rattle.unit_laws.proofs.WholeVersions.{AreBytes-behind, HasParts, begins-alike, has-parts, whole-version}
 
 -- a version that begins with a sequence header
 abbrev BeginsSequence : UnitVersion → Type 0

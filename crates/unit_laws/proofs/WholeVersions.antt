@@ -6,7 +6,7 @@ use Rattle.std.proofs.lemmas.List.{drop_at, get_or-append-add, length-append, le
 use Rattle.bit_lists.specs.Bits.{bits_of}
 use Rattle.bit_lists.specs.Fields.{AreBytes, bit_list, bits_of_byte}
 use Rattle.bit_lists.proofs.BitLemmas.{length-bits_of}
-use Rattle.bit_lists.proofs.ByteLemmas.{AreBytes-take, bit_list-append, bit_list-take, length-bit_list}
+use Rattle.bit_lists.proofs.ByteLemmas.{AreBytes-take, bit_list-append, bit_list-take, length-bit_list, AreBytes-drop}
 use Rattle.bit_lists.proofs.JoinedLemmas.{bits_of-byte}
 use Rattle.bit_lists.proofs.PrefixLemmas.{bit_list-same, bits_of_byte-same}
 use Rattle.syntax_types.specs.declared.picture.PicCoding.{PicCoding}
@@ -74,11 +74,6 @@ pub record OpensSlices (behind : List ℕ) : Type 0 where
   pub code : Code behind place value
   pub is : is_slice value ≡ true
   pub zeros : take 2 behind ≡ 0 ∷ 0 ∷ []
-
-pub AreBytes-drop : (k : ℕ) (xs : List ℕ) → AreBytes xs → AreBytes (drop k xs)
-AreBytes-drop zero xs are = are
-AreBytes-drop (suc k) [] are = tt
-AreBytes-drop (suc k) (x ∷ xs) are = AreBytes-drop k xs are.1
 
 pub AreBytes-behind : (front rest : List ℕ) → AreBytes (front ++ rest) → AreBytes rest
 AreBytes-behind [] rest are = are

@@ -12,6 +12,7 @@ mod kind_bits;
 pub mod laws;
 mod lent;
 mod limits;
+mod shared_bits;
 mod sizes;
 mod slice_count;
 mod slice_read;

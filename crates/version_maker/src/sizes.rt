@@ -14,7 +14,7 @@ use arrayvec::ArrayVec;
 use picture_reader::{Headers, PictureFault, UnitCursor, UnitPart};
 use requantiser::Ladder;
 use std::alloc::Global;
-use syntax_types::SeqState;
+use syntax_types::{PictureParameters, SeqState};
 use version_table::limits::VERSIONS_MOST;
 
 /// The headers of the picture of a unit, and how long all versions of the unit are.
@@ -83,15 +83,12 @@ pub fn size_picture(
             }
             UnitPart::Slice { row, at } => {
                 let bytes = bytes_from(unit, at);
+                let picture = PictureParameters {
+                    seq: &cursor.headers.seq,
+                    coding: &cursor.headers.coding,
+                };
                 match read_and_count(
-                    alloc,
-                    bytes,
-                    &cursor.headers.seq,
-                    &cursor.headers.coding,
-                    coarser,
-                    ladder,
-                    &mut lent,
-                    &mut slice,
+                    alloc, bytes, picture, coarser, ladder, &mut lent, &mut slice,
                 ) {
                     Ok(()) => {
                         cursor = cursor.past(unit, row, at, slice.bits, slice.span);

@@ -5,24 +5,25 @@ ghost use Rattle.std.specs.Option.{option_to_list};
 ghost use Rattle.quant_math.specs.Scales.{IsCode};
 ghost use Rattle.picture_grammar.specs.Written.{written_macroblock, written_slice_info};
 ghost use Rattle.requantiser.specs.Levels.{HasWeights};
-ghost use Rattle.macroblock_writer.specs.Parts.{dc_length, head_length, motion_length};
+ghost use Rattle.macroblock_writer.specs.Parts.{head_length};
 ghost use Rattle.requantiser.specs.declared.tally.Tally.{Tally as TallyOf};
 ghost use Rattle.requantiser.specs.Tallies.{kind_under, told_by};
 ghost use Rattle.requantiser.specs.VersionState.{IsSpelledMacroblock};
 ghost use Rattle.version_maker.specs.declared.slice_count.VersionCount.{VersionCount as CountOf};
 ghost use Rattle.syntax_types.specs.declared.macroblock.Kind.{Kind as KindOf};
 ghost use Rattle.syntax_types.specs.declared.picture.PicCoding.{PicCoding as CodingOf};
-ghost use Rattle.version_maker.specs.Private.Kinds.{AreKindBits, AreStayedBits};
+ghost use Rattle.version_maker.specs.Private.Kinds.{AreKindBits};
+ghost use Rattle.version_maker.specs.Private.SharedBits.{AreSharedBits};
 ghost use Rattle.version_maker.specs.Private.Counts.{CanCount, IsCountedMacroblock, IsStartCount};
 
 use crate::kind_bits::{CODE_BITS, KindBits};
-use crate::stayed_bits::StayedBits;
-use macroblock_writer::{increment_bits, macroblock_bits, motion_and_dc_bits, pattern_bits};
+use crate::shared_bits::SharedBits;
+use macroblock_writer::{increment_bits, macroblock_bits, pattern_bits};
 use requantiser::{
     Head, Outline, Tally, VERSIONS_AT_ONCE, VersionRoom, VersionState, coded_head, is_emptied,
     outline_macroblock, stayed_head, stays,
 };
-use syntax_types::{Macroblock, PicCoding, SeqState, SliceInfo};
+use syntax_types::{Macroblock, PicCoding, PictureParameters, SliceInfo};
 
 /// Where one version stands in a slice, and what was counted of it.
 #[derive(Clone, Copy)]
@@ -105,8 +106,7 @@ pub fn is_inner(is_first: bool, closed: bool) -> bool
 
 /// Counts what becomes of one more macroblock in the first so many versions, through room that is lent.
 pub fn count_macroblock(
-    seq: &SeqState,
-    coding: &PicCoding,
+    picture: PictureParameters<'_>,
     inner: bool,
     from: &Macroblock,
     count: usize,
@@ -114,27 +114,22 @@ pub fn count_macroblock(
     lent: &mut VersionRoom,
     counts: &mut [VersionCount; VERSIONS_AT_ONCE],
 )
-    requires weights { HasWeights seq.now }
-    requires spelled { IsSpelledMacroblock coding.now from.now }
+    requires weights { HasWeights picture.seq.now }
+    requires spelled { IsSpelledMacroblock picture.coding.now from.now }
     requires count { count ≤ VERSIONS_AT_ONCE }
-    requires each { (k : ℕ) (d : CountOf) (e : TallyOf) → k < count → CanCount seq.now coding.now from.now (slice_index_or tallies.now k e) (slice_index_or counts.old k d) }
-    ensures { (k : ℕ) (d : CountOf) → k < count → IsCountedMacroblock seq.now coding.now inner from.now (slice_index_or counts.old k d) (slice_index_or counts.new k d) }
+    requires each { (k : ℕ) (d : CountOf) (e : TallyOf) → k < count → CanCount picture.seq.now picture.coding.now from.now (slice_index_or tallies.now k e) (slice_index_or counts.old k d) }
+    ensures { (k : ℕ) (d : CountOf) → k < count → IsCountedMacroblock picture.entry.seq.now picture.entry.coding.now inner from.now (slice_index_or counts.old k d) (slice_index_or counts.new k d) }
 {
     if count == 0 {
         return;
     }
-    let shared = motion_and_dc_bits(coding, from);
-    let kinds = KindBits::of(coding, from.kind);
-    let stayed = StayedBits::of(kinds, from, shared);
+    let bits = SharedBits::of(picture.coding, from);
     for k in 0..count {
         count_version(
-            seq,
-            coding,
+            picture,
             inner,
             from,
-            shared,
-            &kinds,
-            &stayed,
+            &bits,
             &tallies[k],
             lent,
             &mut counts[k],
@@ -142,69 +137,56 @@ pub fn count_macroblock(
     }
 }
 
-/// Counts what becomes of one more macroblock in a version, through room that is lent. Its motion and its DC coefficients are
-/// the same in all versions, in so many bits, and so is its head where it stays as it is.
+/// Counts what becomes of one more macroblock in a version, through room that is lent, where all versions share these bits.
 #[inline]
 fn count_version(
-    seq: &SeqState,
-    coding: &PicCoding,
+    picture: PictureParameters<'_>,
     inner: bool,
     from: &Macroblock,
-    shared: u32,
-    kinds: &KindBits,
-    stayed: &StayedBits,
+    bits: &SharedBits,
     tally: &Tally,
     lent: &mut VersionRoom,
     count: &mut VersionCount,
 )
-    requires weights { HasWeights seq.now }
-    requires spelled { IsSpelledMacroblock coding.now from.now }
-    requires shared { shared ≡ motion_length coding.now from.now + dc_length coding.now from.now }
-    requires few { shared ≤ 2 ^ 15 }
-    requires kinds { AreKindBits coding.now from.now.kind kinds.now.neither kinds.now.pattern kinds.now.code kinds.now.both }
-    requires stayed { AreStayedBits coding.now from.now shared stayed.now.neither stayed.now.pattern }
-    requires can { CanCount seq.now coding.now from.now tally.now count.old }
-    ensures { IsCountedMacroblock seq.now coding.now inner from.now count.old count.new }
+    requires weights { HasWeights picture.seq.now }
+    requires spelled { IsSpelledMacroblock picture.coding.now from.now }
+    requires bits { AreSharedBits picture.coding.now from.now bits.now }
+    requires can { CanCount picture.seq.now picture.coding.now from.now tally.now count.old }
+    ensures { IsCountedMacroblock picture.entry.seq.now picture.entry.coding.now inner from.now count.old count.new }
 {
     if stays(tally, &count.state, from) {
         let head = stayed_head(tally, from);
-        count.bits += u64::from(stayed.at(head.pattern) + tally.bits);
+        count.bits += u64::from(bits.stayed.at(head.pattern) + tally.bits);
         count.distortion += tally.distortion;
         return;
     }
-    count_changed(
-        seq, coding, inner, from, shared, *kinds, *tally, lent, count,
-    );
+    count_changed(picture, inner, from, *bits, *tally, lent, count);
 }
 
 /// The same of a macroblock whose head changes, which is rare.
 #[cold]
 #[inline(never)]
 fn count_changed(
-    seq: &SeqState,
-    coding: &PicCoding,
+    picture: PictureParameters<'_>,
     inner: bool,
     from: &Macroblock,
-    shared: u32,
-    kinds: KindBits,
+    bits: SharedBits,
     tally: Tally,
     lent: &mut VersionRoom,
     count: &mut VersionCount,
 )
-    requires weights { HasWeights seq.now }
-    requires spelled { IsSpelledMacroblock coding.now from.now }
-    requires shared { shared ≡ motion_length coding.now from.now + dc_length coding.now from.now }
-    requires few { shared ≤ 2 ^ 15 }
-    requires kinds { AreKindBits coding.now from.now.kind kinds.neither kinds.pattern kinds.code kinds.both }
-    requires can { CanCount seq.now coding.now from.now tally count.old }
-    ensures { IsCountedMacroblock seq.now coding.now inner from.now count.old count.new }
+    requires weights { HasWeights picture.seq.now }
+    requires spelled { IsSpelledMacroblock picture.coding.now from.now }
+    requires bits { AreSharedBits picture.coding.now from.now bits }
+    requires can { CanCount picture.seq.now picture.coding.now from.now tally count.old }
+    ensures { IsCountedMacroblock picture.entry.seq.now picture.entry.coding.now inner from.now count.old count.new }
 {
     if is_emptied(from.kind, tally) {
-        count_emptied(seq, coding, inner, from, shared, kinds, tally, lent, count);
+        count_emptied(picture, inner, from, bits, tally, lent, count);
         return;
     }
     let head = coded_head(tally, &mut count.state, from);
-    let outline = head_in_version(kinds, head) + shared;
+    let outline = head_in_version(bits.kinds, head) + bits.motion_and_dc;
     count.bits += u64::from(outline + tally.bits);
     count.distortion += tally.distortion;
 }
@@ -212,48 +194,41 @@ fn count_changed(
 /// The same of a macroblock that has no coefficients left, which is rare.
 #[cold]
 fn count_emptied(
-    seq: &SeqState,
-    coding: &PicCoding,
+    picture: PictureParameters<'_>,
     inner: bool,
     from: &Macroblock,
-    shared: u32,
-    kinds: KindBits,
+    bits: SharedBits,
     tally: Tally,
     lent: &mut VersionRoom,
     count: &mut VersionCount,
 )
-    requires weights { HasWeights seq.now }
-    requires spelled { IsSpelledMacroblock coding.now from.now }
-    requires shared { shared ≡ motion_length coding.now from.now + dc_length coding.now from.now }
-    requires few { shared ≤ 2 ^ 15 }
-    requires kinds { AreKindBits coding.now from.now.kind kinds.neither kinds.pattern kinds.code kinds.both }
-    requires can { CanCount seq.now coding.now from.now tally count.old }
-    ensures { IsCountedMacroblock seq.now coding.now inner from.now count.old count.new }
+    requires weights { HasWeights picture.seq.now }
+    requires spelled { IsSpelledMacroblock picture.coding.now from.now }
+    requires bits { AreSharedBits picture.coding.now from.now bits }
+    requires can { CanCount picture.seq.now picture.coding.now from.now tally count.old }
+    ensures { IsCountedMacroblock picture.entry.seq.now picture.entry.coding.now inner from.now count.old count.new }
 {
-    let made = outline_macroblock(seq, coding, inner, tally, &mut count.state, from, lent);
-    let outline = outline_bits(coding, from, shared, kinds, made.outline, &lent.macroblock);
+    let made = outline_macroblock(picture, inner, tally, &mut count.state, from, lent);
+    let outline = outline_bits(picture.coding, from, bits, made.outline, &lent.macroblock);
     count.bits += u64::from(outline + made.bits);
     count.distortion += made.distortion;
 }
 
-/// The bits of what an outline tells of a macroblock, whose motion and DC coefficients are written in so many.
+/// The bits of what an outline tells of a macroblock, of which all versions share these.
 fn outline_bits(
     coding: &PicCoding,
     from: &Macroblock,
-    shared: u32,
-    kinds: KindBits,
+    bits: SharedBits,
     outline: Outline,
     lent: &Macroblock,
 ) -> u32
     requires spelled { IsSpelledMacroblock coding.now from.now }
-    requires shared { shared ≡ motion_length coding.now from.now + dc_length coding.now from.now }
-    requires few { shared ≤ 2 ^ 15 }
-    requires kinds { AreKindBits coding.now from.now.kind kinds.neither kinds.pattern kinds.code kinds.both }
+    requires bits { AreSharedBits coding.now from.now bits }
     ensures value { result ≡ length (flat_map (written_macroblock coding.now) (option_to_list (told_by coding.now from.now lent.now outline))) }
     ensures few { result < 2 ^ 17 }
 {
     match outline {
-        Outline::Coded(head) => head_in_version(kinds, head) + shared,
+        Outline::Coded(head) => head_in_version(bits.kinds, head) + bits.motion_and_dc,
         Outline::Kept => macroblock_bits(coding, lent),
         Outline::Skipped => 0,
     }

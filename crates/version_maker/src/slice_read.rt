@@ -22,10 +22,10 @@ use macroblock_reader::{SliceCursor, SliceFault, read_slice_head};
 use picture_grammar::grid::columns;
 use picture_reader::Span;
 use quant_math::WHOLE_RATIO;
-use requantiser::{Ladder, Tally, VERSIONS_AT_ONCE, VersionRoom, tally_macroblock};
+use requantiser::{Ladder, VERSIONS_AT_ONCE, tally_macroblock};
 use shelf_io::{Fault, SliceSource, Source};
 use std::alloc::Global;
-use syntax_types::{Macroblock, PicCoding, SeqState};
+use syntax_types::{PicCoding, PictureParameters};
 
 /// What was counted of a slice that was read.
 #[derive(Clone, Copy)]
@@ -57,29 +57,27 @@ impl SliceRead {
 pub fn read_and_count(
     alloc: Global,
     bytes: &[u8],
-    seq: &SeqState,
-    coding: &PicCoding,
+    picture: PictureParameters<'_>,
     ratios: &[u16],
     ladder: &mut Ladder,
     lent: &mut Lent,
     slice: &mut SliceRead,
 ) -> Result<(), SliceFault>
-    requires coding { IsCoding coding.now }
-    requires weights { HasWeights seq.now }
+    requires coding { IsCoding picture.coding.now }
+    requires weights { HasWeights picture.seq.now }
     requires length { length bytes.now ≤ 2 ^ 20 }
     requires ratios { length ratios.now ≤ VERSIONS_AT_ONCE }
-    ensures gives { (row : ℕ) → MatchResult result (λ _. IsSliceRead seq.now coding.now ratios.now row slice.new (bit_list bytes.now))
-        (λ fault. RefusesTold (slice_of seq.now coding.now row) (refusal_told fault) (length (bit_list bytes.now)) (bit_list bytes.now)) }
+    ensures gives { (row : ℕ) → MatchResult result (λ _. IsSliceRead picture.entry.seq.now picture.entry.coding.now ratios.now row slice.new (bit_list bytes.now))
+        (λ fault. RefusesTold (slice_of picture.entry.seq.now picture.entry.coding.now row) (refusal_told fault) (length (bit_list bytes.now)) (bit_list bytes.now)) }
     ensures inside { IfErr result IsInside }
 {
     let mut source = SliceSource::new(bytes);
     let mut reader = BitReader::new(&mut source);
     let head = read_slice_head(&mut reader, alloc)?;
-    start_counts(coding, ratios, head.code, &mut slice.counts);
+    start_counts(picture.coding, ratios, head.code, &mut slice.counts);
     let span = count_macroblocks(
         &mut reader,
-        seq,
-        coding,
+        picture,
         ratios,
         head.code,
         ladder,
@@ -96,87 +94,70 @@ pub fn read_and_count(
 /// the columns that they hold.
 fn count_macroblocks<S: Source>(
     from: &mut BitReader<'_, S>,
-    seq: &SeqState,
-    coding: &PicCoding,
+    picture: PictureParameters<'_>,
     ratios: &[u16],
     code: u8,
     ladder: &mut Ladder,
     lent: &mut Lent,
     counts: &mut [VersionCount; VERSIONS_AT_ONCE],
 ) -> Result<Span, SliceFault>
-    requires coding { IsCoding coding.now }
-    requires weights { HasWeights seq.now }
+    requires coding { IsCoding picture.coding.now }
+    requires weights { HasWeights picture.seq.now }
     requires told { (bits : List ℕ) × (bits_left from.old ≡ Some bits) }
     requires code { IsCode code }
     requires ratios { length ratios.now ≤ VERSIONS_AT_ONCE }
-    requires start { (k : ℕ) (d : CountOf) → k < length ratios.now → IsStartCount coding.now (slice_index ratios.now k) code (slice_index_or counts.old k d) }
+    requires start { (k : ℕ) (d : CountOf) → k < length ratios.now → IsStartCount picture.coding.now (slice_index ratios.now k) code (slice_index_or counts.old k d) }
     ensures gives { (bits : List ℕ) → bits_left from.old ≡ Some bits →
-        MatchResult result (λ span. AreMacroblocksRead seq.now coding.now (length ratios.now) counts.old counts.new span bits from.old from.new)
-        (λ fault. RefusesTold (many (next_macroblock seq.now coding.now)) (refusal_told fault) (place from.old + length bits) bits) }
+        MatchResult result (λ span. AreMacroblocksRead picture.entry.seq.now picture.entry.coding.now (length ratios.now) counts.old counts.new span bits from.old from.new)
+        (λ fault. RefusesTold (many (next_macroblock picture.entry.seq.now picture.entry.coding.now)) (refusal_told fault) (place from.old + length bits) bits) }
     ensures failed { IsErrOf result (SliceFault.Outside Fault.Failed) → Rose (faults_of from.old) (faults_of from.new) }
     ensures missing { IsErrOf result (SliceFault.Outside Fault.Missing) → Rose (absences_of from.old) (absences_of from.new) }
     ensures keeps { KeepsSource from.old from.new }
 {
-    let _columns = columns(seq);
-    let mut cursor = SliceCursor::new(seq);
+    let _columns = columns(picture.seq);
+    let mut cursor = SliceCursor::new(picture.seq);
     let mut span = Span::new();
-    let mut tallies = [Tally::empty(); VERSIONS_AT_ONCE];
     let mut in_force = code;
     'macroblocks: loop {
-        let is_more = cursor.next(from, coding, &mut lent.from)?;
+        let is_more = cursor.next(from, picture.coding, &mut lent.from)?;
         if !is_more {
             return Ok(span);
         }
         let closed = cursor.is_closed(from)?;
         let inner = is_inner(span.end == 0, closed);
-        in_force = count_next(
-            seq,
-            coding,
-            inner,
-            in_force,
-            ratios,
-            &lent.from,
-            &mut tallies,
-            ladder,
-            &mut lent.made,
-            counts,
-        );
         span = span.with(lent.from.skipped_before);
+        in_force = count_next(picture, inner, in_force, ratios, ladder, lent, counts);
     }
 }
 
-/// Counts one more macroblock in the version at each ratio, where this code of the source is in force before it. It answers
-/// the code behind it.
+/// Counts the macroblock that was read in the version at each ratio, where this code of the source is in force before it. It
+/// answers the code behind it.
 fn count_next(
-    seq: &SeqState,
-    coding: &PicCoding,
+    picture: PictureParameters<'_>,
     inner: bool,
     code: u8,
     ratios: &[u16],
-    from: &Macroblock,
-    tallies: &mut [Tally; VERSIONS_AT_ONCE],
     ladder: &mut Ladder,
-    made: &mut VersionRoom,
+    lent: &mut Lent,
     counts: &mut [VersionCount; VERSIONS_AT_ONCE],
 ) -> u8
-    requires weights { HasWeights seq.now }
+    requires weights { HasWeights picture.seq.now }
     requires code { IsCode code }
-    requires spelled { IsSpelledMacroblock coding.now from.now }
+    requires spelled { IsSpelledMacroblock picture.coding.now lent.old.from }
     requires ratios { length ratios.now ≤ VERSIONS_AT_ONCE }
-    requires each { (k : ℕ) (d : CountOf) → k < length ratios.now → CanCountBehind code (slice_index ratios.now k) from.now (slice_index_or counts.old k d) }
-    ensures code { result ≡ unwrap_or from.now.code code }
+    requires each { (k : ℕ) (d : CountOf) → k < length ratios.now → CanCountBehind code (slice_index ratios.now k) lent.old.from (slice_index_or counts.old k d) }
+    ensures code { result ≡ unwrap_or lent.old.from.code code }
     ensures is_code { IsCode result }
-    ensures each { (k : ℕ) (d : CountOf) → k < length ratios.now → IsCountedMacroblock seq.now coding.now inner from.now (slice_index_or counts.old k d) (slice_index_or counts.new k d) }
+    ensures each { (k : ℕ) (d : CountOf) → k < length ratios.now → IsCountedMacroblock picture.entry.seq.now picture.entry.coding.now inner lent.old.from (slice_index_or counts.old k d) (slice_index_or counts.new k d) }
 {
-    let behind = tally_macroblock(seq, coding, code, ratios, from, tallies, ladder);
+    let behind = tally_macroblock(picture, code, ratios, &lent.from, &mut lent.tallies, ladder);
     count_macroblock(
-        seq,
-        coding,
+        picture,
         inner,
-        from,
+        &lent.from,
         ratios.len(),
-        tallies,
-        made,
+        &lent.tallies,
+        &mut lent.made,
         counts,
     );
     behind

@@ -34,7 +34,7 @@ use requantiser::{VersionState, requantise_macroblock};
 use shelf_io::{Fault, Sink, SliceSource, Source};
 use std::alloc::Global;
 use stream_constants::start_codes::FIRST_SLICE;
-use syntax_types::{Macroblock, PicCoding, SeqState, SliceInfo};
+use syntax_types::{Macroblock, PicCoding, PictureParameters, SliceInfo};
 
 /// A slice that was read, and whose version was written.
 #[derive(Clone, Copy)]
@@ -50,25 +50,24 @@ pub struct SliceMade {
 pub fn make_slice<K: Sink>(
     alloc: Global,
     bytes: &[u8],
-    seq: &SeqState,
-    coding: &PicCoding,
+    picture: PictureParameters<'_>,
     row: u8,
     m: u16,
     lent: &mut Lent,
     to: &mut K,
 ) -> Result<SliceMade, SliceFault>
-    requires coding { IsCoding coding.now }
-    requires weights { HasWeights seq.now }
+    requires coding { IsCoding picture.coding.now }
+    requires weights { HasWeights picture.seq.now }
     requires length { length bytes.now ≤ 2 ^ 60 }
     requires row { row + FIRST_SLICE < 2 ^ 8 }
-    ensures gives { MatchResult result (λ made. IsMadeSlice seq.now coding.now m row made (bit_list bytes.now) (K.written to.old) (K.written to.new))
-        (λ fault. RefusesTold (slice_grammar seq.now coding.now row) (refusal_told fault) (length (bit_list bytes.now)) (bit_list bytes.now)) }
+    ensures gives { MatchResult result (λ made. IsMadeSlice picture.entry.seq.now picture.entry.coding.now m row made (bit_list bytes.now) (K.written to.old) (K.written to.new))
+        (λ fault. RefusesTold (slice_grammar picture.entry.seq.now picture.entry.coding.now row) (refusal_told fault) (length (bit_list bytes.now)) (bit_list bytes.now)) }
     ensures inside { IfErr result IsInside }
 {
     let mut source = SliceSource::new(bytes);
     let mut reader = BitReader::new(&mut source);
     let head = read_slice_head(&mut reader, alloc)?;
-    let span = make_behind_head(&mut reader, seq, coding, row, m, &head, lent, to)?;
+    let span = make_behind_head(&mut reader, picture, row, m, &head, lent, to)?;
     let bits = reader.place();
     Ok(SliceMade { span, bits })
 }
@@ -76,32 +75,31 @@ pub fn make_slice<K: Sink>(
 /// Reads the macroblocks of a slice with this head, up to its close, and writes the slice of the version.
 fn make_behind_head<S: Source, K: Sink>(
     from: &mut BitReader<'_, S>,
-    seq: &SeqState,
-    coding: &PicCoding,
+    picture: PictureParameters<'_>,
     row: u8,
     m: u16,
     head: &SliceHead,
     lent: &mut Lent,
     to: &mut K,
 ) -> Result<Span, SliceFault>
-    requires coding { IsCoding coding.now }
-    requires weights { HasWeights seq.now }
+    requires coding { IsCoding picture.coding.now }
+    requires weights { HasWeights picture.seq.now }
     requires told { (end : ℕ) × (bits : List ℕ) × Rests from.old end bits }
     requires row { row + FIRST_SLICE < 2 ^ 8 }
     requires code { IsCode head.now.code }
     requires reserved { IfSome head.now.info (λ info. info.reserved < 2 ^ 7) }
     ensures gives { (end : ℕ) (bits : List ℕ) → Rests from.old end bits →
-        MatchResult result (λ span. IsMadeBehind seq.now coding.now m row head.now span end bits from.new (K.written to.old) (K.written to.new))
-        (λ fault. RefusesTold (many (next_macroblock seq.now coding.now)) (refusal_told fault) end bits) }
+        MatchResult result (λ span. IsMadeBehind picture.entry.seq.now picture.entry.coding.now m row head.now span end bits from.new (K.written to.old) (K.written to.new))
+        (λ fault. RefusesTold (many (next_macroblock picture.entry.seq.now picture.entry.coding.now)) (refusal_told fault) end bits) }
     ensures few { IfOk result (λ span. span.end ≤ 4096) }
     ensures failed { IsErrOf result (SliceFault.Outside Fault.Failed) → Rose (faults_of from.old) (faults_of from.new) }
     ensures missing { IsErrOf result (SliceFault.Outside Fault.Missing) → Rose (absences_of from.old) (absences_of from.new) }
     ensures keeps { KeepsSource from.old from.new }
 {
-    let start = VersionState::new(coding, m, head.code);
+    let start = VersionState::new(picture.coding, m, head.code);
     let mut writer = BitWriter::new(to);
     write_front(row, start.version_code, &head.info, &mut writer)?;
-    let span = make_macroblocks(from, seq, coding, start, lent, &mut writer)?;
+    let span = make_macroblocks(from, picture, start, lent, &mut writer)?;
     write_close(&mut writer)?;
     in_memory(writer.finish())?;
     Ok(span)
@@ -111,61 +109,59 @@ fn make_behind_head<S: Source, K: Sink>(
 /// the slice's start.
 fn make_macroblocks<S: Source, K: Sink>(
     from: &mut BitReader<'_, S>,
-    seq: &SeqState,
-    coding: &PicCoding,
+    picture: PictureParameters<'_>,
     start: VersionState,
     lent: &mut Lent,
     to: &mut BitWriter<'_, K>,
 ) -> Result<Span, SliceFault>
-    requires coding { IsCoding coding.now }
-    requires weights { HasWeights seq.now }
+    requires coding { IsCoding picture.coding.now }
+    requires weights { HasWeights picture.seq.now }
     requires told { (end : ℕ) × (bits : List ℕ) × Rests from.old end bits }
     requires none { start.skipped ≡ 0 }
     requires goes { is_stopped to.old ≡ false }
     ensures gives { (end : ℕ) (bits : List ℕ) → Rests from.old end bits →
-        MatchResult result (λ span. AreMade K.written seq.now coding.now start span end bits from.new to.old to.new)
-        (λ fault. RefusesTold (many (next_macroblock seq.now coding.now)) (refusal_told fault) end bits) }
+        MatchResult result (λ span. AreMade K.written picture.entry.seq.now picture.entry.coding.now start span end bits from.new to.old to.new)
+        (λ fault. RefusesTold (many (next_macroblock picture.entry.seq.now picture.entry.coding.now)) (refusal_told fault) end bits) }
     ensures few { IfOk result (λ span. span.end ≤ 4096) }
     ensures failed { IsErrOf result (SliceFault.Outside Fault.Failed) → Rose (faults_of from.old) (faults_of from.new) }
     ensures missing { IsErrOf result (SliceFault.Outside Fault.Missing) → Rose (absences_of from.old) (absences_of from.new) }
     ensures keeps { KeepsSource from.old from.new }
 {
-    let _columns = columns(seq);
-    let mut cursor = SliceCursor::new(seq);
+    let _columns = columns(picture.seq);
+    let mut cursor = SliceCursor::new(picture.seq);
     let mut span = Span::new();
     let mut state = start;
     let mut is_first = true;
     'macroblocks: loop {
-        let is_more = cursor.next(from, coding, &mut lent.from)?;
+        let is_more = cursor.next(from, picture.coding, &mut lent.from)?;
         if !is_more {
             return Ok(span);
         }
         let is_last = cursor.is_closed(from)?;
         span = span.with(lent.from.skipped_before);
         let inner = is_inner(is_first, is_last);
-        make_macroblock(seq, coding, inner, &mut state, lent, to)?;
+        make_macroblock(picture, inner, &mut state, lent, to)?;
         is_first = false;
     }
 }
 
 /// Writes what becomes of the macroblock of the source that was read.
 fn make_macroblock<K: Sink>(
-    seq: &SeqState,
-    coding: &PicCoding,
+    picture: PictureParameters<'_>,
     inner: bool,
     state: &mut VersionState,
     lent: &mut Lent,
     to: &mut BitWriter<'_, K>,
 ) -> Result<(), OutOfMemory>
-    requires coding { IsCoding coding.now }
-    requires weights { HasWeights seq.now }
-    requires spelled { IsSpelledMacroblock coding.now lent.old.from }
+    requires coding { IsCoding picture.coding.now }
+    requires weights { HasWeights picture.seq.now }
+    requires spelled { IsSpelledMacroblock picture.coding.now lent.old.from }
     requires room { state.old.skipped + lent.old.from.skipped_before < u16.MAX }
     requires goes { is_stopped to.old ≡ false }
-    ensures { OnOk result (IsWrittenStep K.written seq.now coding.now inner lent.old.from state.old state.new to.old to.new) }
+    ensures { OnOk result (IsWrittenStep K.written picture.entry.seq.now picture.entry.coding.now inner lent.old.from state.old state.new to.old to.new) }
 {
-    let coded = requantise_macroblock(seq, coding, inner, state, &lent.from, &mut lent.made);
-    write_where_coded(coding, coded, &lent.made.macroblock, to)
+    let coded = requantise_macroblock(picture, inner, state, &lent.from, &mut lent.made);
+    write_where_coded(picture.coding, coded, &lent.made.macroblock, to)
 }
 
 /// Writes a macroblock where it is coded, and nothing where it is skipped.

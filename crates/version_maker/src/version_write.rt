@@ -21,7 +21,7 @@ use picture_reader::{PictureFault, UnitCursor, UnitPart};
 use picture_writer::write_end;
 use shelf_io::{Sink, VecSink, put_all};
 use std::alloc::Global;
-use syntax_types::SeqState;
+use syntax_types::{PictureParameters, SeqState};
 
 /// The bytes of the version at `m` sixteenths.
 pub fn coarser_bytes(
@@ -72,16 +72,11 @@ fn make_version<K: Sink>(
             }
             UnitPart::Slice { row, at } => {
                 let bytes = bytes_from(unit, at);
-                let made = match make_slice(
-                    alloc,
-                    bytes,
-                    &cursor.headers.seq,
-                    &cursor.headers.coding,
-                    row,
-                    m,
-                    &mut lent,
-                    to,
-                ) {
+                let picture = PictureParameters {
+                    seq: &cursor.headers.seq,
+                    coding: &cursor.headers.coding,
+                };
+                let made = match make_slice(alloc, bytes, picture, row, m, &mut lent, to) {
                     Ok(made) => made,
                     Err(fault) => return Err(cursor.fault_of(unit, row, at, fault)),
                 };

@@ -2,10 +2,9 @@
 use Rattle.std.proofs.Common.{◌≡◌, ℕ, zero, suc, ◌+◌, ◌-◌, List, [], ◌∷◌, length, drop, map, slice_index_or, All, Option, Some, None, refl, ap, ◌∙◌, arith}
 use Rattle.std.proofs.lemmas.List.{length-append}
 use Rattle.bit_lists.specs.Fields.{AreBytes}
-use Rattle.bit_lists.proofs.ByteLemmas.{AreBytes-take}
+use Rattle.bit_lists.proofs.ByteLemmas.{AreBytes-take, AreBytes-drop}
 use Rattle.syntax_types.specs.declared.picture.SeqState.{SeqState}
 use Rattle.picture_grammar.specs.Picture.{MayPrecede}
-use Rattle.picture_reader.proofs.Parts.{are-dropped}
 use Rattle.pes_units.specs.VideoHeader.{written_pes_header}
 use Rattle.program_reader.specs.declared.program.Program.{Program}
 use Rattle.program_reader.specs.declared.program.UnitSource.{UnitSource}
@@ -20,7 +19,7 @@ use Rattle.version_source.proofs.StateLemmas.{state-left}
 
 -- the bytes of a unit are bytes
 are-unit-bytes : (es : List ℕ) (unit : UnitSource) → AreBytes es → AreBytes (bytes_of_unit es unit)
-are-unit-bytes es unit are = AreBytes-take (unit.end - unit.begin) (drop unit.begin es) (are-dropped unit.begin es are)
+are-unit-bytes es unit are = AreBytes-take (unit.end - unit.begin) (drop unit.begin es) (AreBytes-drop unit.begin es are)
 
 -- ---- some
 

@@ -19,6 +19,7 @@ use Rattle.version_source.specs.Private.Kept.{IsKept}
 use Rattle.version_source.specs.Private.Made.{HasVersions}
 use Rattle.version_source.specs.Private.Sending.{IsPacketOf, LeaveBehind}
 use Rattle.version_source.proofs.StateLemmas.{versions-there}
+use Rattle.program_reader.proofs.Missing.{no_unit}
 
 -- ---- of a PES packet
 
@@ -91,10 +92,6 @@ held es coarser units choice number kept packet is there some within = record {
   left = subst (λ (n : ℕ). LeaveBehind es None units n kept.before) there is.before_is;
   is = λ other. subst (λ (n : ℕ). IsPacketOf es coarser kept.before (get_or units n other) (slice_index choice n) packet) there (is.packet_is packet other some (omega (arith, there, within)));
 }
-
--- what stands for a unit that isn't there
-abbrev pub no_unit : UnitSource
-no_unit = record { begin = 0; end = 0; times = record { pts = None; dts = None }; due = 0; kind = 0; role = Frame }
 
 pub held-piece : (es coarser : List ℕ) (units : List UnitSource) (choice : List ℕ) (number : ℕ) (state : Option SeqState) (packet : List ℕ) (k : ℕ)
     → IsHeld es coarser units choice number state packet → number < length units → length units ≤ length choice → HasVersions es coarser units

@@ -1,7 +1,7 @@
 mod AllVersions
 mod Cuts
 mod Examples
-mod Items
+pub mod Items
 mod KeptLemmas
 mod MadeLemmas
 pub mod PacketLemmas

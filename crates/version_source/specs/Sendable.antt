@@ -1,5 +1,5 @@
 -- What must stand in a program so that each of its pieces can be made.
-use Rattle.std.specs.Prelude.{◌≡◌, ℕ, ◌+◌, ◌≤◌, List, [], ◌∷◌, length, All, Option, Some, None}
+use Rattle.std.specs.Prelude.{◌≡◌, ℕ, zero, suc, ◌+◌, ◌≤◌, List, [], ◌∷◌, length, All, Option, Some, None}
 use Rattle.syntax_types.specs.declared.picture.Picture.{Picture}
 use Rattle.syntax_types.specs.declared.picture.SeqState.{SeqState}
 use Rattle.pes_units.specs.VideoHeader.{AreInRange, IsBesidePts}
@@ -29,6 +29,13 @@ pub record LeavesState (before : Option SeqState) (unit : List ℕ) (after : Seq
 abbrev pub SpellInOrder : (es : List ℕ) → Option SeqState → List UnitSource → Type 0
 SpellInOrder es before [] = Unit {0}
 SpellInOrder es before (unit ∷ units) = (after : SeqState) × LeavesState before (bytes_of_unit es unit) after × SpellInOrder es (Some after) units
+
+-- behind a state, so many units of a video leave another one
+abbrev pub LeaveBehind : List ℕ → Option SeqState → List UnitSource → (count : ℕ) → Option SeqState → Type 0
+LeaveBehind es before units zero after = before ≡ after
+LeaveBehind es before [] (suc count) after = ⊥
+LeaveBehind es before (unit ∷ units) (suc count) after =
+    (next : SeqState) × LeavesState before (bytes_of_unit es unit) next × LeaveBehind es (Some next) units count after
 
 -- a unit stands in the video, is no longer than a unit may be, and a PES header can say its times (13818-1, 2.4.3.7)
 pub record IsUnitOf (es : List ℕ) (unit : UnitSource) : Type 0 where

@@ -9,6 +9,7 @@ ghost use Rattle.job_report.specs.declared.job.Form.{Form};
 ghost use Rattle.program_reader.specs.declared.program.Program.{Program};
 ghost use Rattle.program_reader.specs.declared.program.UnitSource.{UnitSource};
 ghost use Rattle.program_reader.specs.Programs.{IsProgram, IsProgramOfFile};
+ghost use Rattle.program_reader.specs.ReadProgram.{IsReadProgram};
 ghost use Rattle.version_maker.specs.declared.version.UnitVersion.{UnitVersion};
 ghost use Rattle.version_maker.specs.Versions.{size_of};
 ghost use Rattle.version_source.specs.Pieces.{pes_packet};
@@ -41,11 +42,5 @@ pub fn packet_has_size_of_version()
 pub fn programs_can_be_sent()
     ensures taken_out { (start : ℕ) (demuxed : Demuxed) (program : Program) → IsProgram start demuxed program → IsSendable program }
     ensures of_file { (form : Form) (file : List ℕ) (number : ℕ) (drop : List ℕ) (start : ℕ) (program : Program) → IsProgramOfFile form file number drop start program → IsSendable program }
+    ensures read { (start : ℕ) (program : Program) → IsReadProgram start program → IsSendable program }
 {}
-
-/// The items of a slice of bytes are bytes.
-pub fn see_bytes(bytes: &[u8])
-    ensures { AreBytes bytes.now }
-{
-    let _ = bytes;
-}

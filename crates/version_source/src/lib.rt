@@ -13,6 +13,6 @@ mod sent_video;
 mod source;
 mod state;
 
-pub use packet::unit_bytes;
+pub use packet::{packet_piece, unit_bytes, with_header};
 pub use source::VersionSource;
 pub use state::state_behind;

@@ -75,7 +75,7 @@ pub fn unit_bytes<'a>(es: &'a [u8], unit: &UnitSource) -> &'a [u8]
 }
 
 /// A version with the header of a PES packet before it, which says these times.
-fn with_header(
+pub fn with_header(
     alloc: Global,
     times: &Times,
     version: &ListOf<u8>,

@@ -9,7 +9,6 @@ ghost use Rattle.version_source.specs.Private.Kept.{AreKept, nothing};
 ghost use Rattle.version_source.specs.Private.Made.{HaveVersions, one-made};
 ghost use Rattle.version_source.specs.Source.{told_of, HasIt};
 
-use crate::laws::see_bytes;
 use crate::packet::audio_piece;
 use crate::place::{Place, place_of};
 use crate::sent_video::{SentVideo, Video};
@@ -17,6 +16,7 @@ use job_report::ProgramJob;
 use list_types::OutOfMemory;
 use mux_writer::{Filled, PieceSource};
 use program_reader::Program;
+use program_reader::laws::see_bytes;
 use shelf_io::Fault;
 use std::alloc::Global;
 use std::marker::Model;

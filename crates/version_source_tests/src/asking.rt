@@ -40,11 +40,10 @@ fn is_right(source: &mut VersionSource<'_>, kept: &Kept, ask: Ask) -> Result<boo
     requires has { HasAll (stream_items kept.now.programs kept.now.versions kept.now.choice.items) source.old }
     ensures { HasAll (stream_items kept.now.programs kept.now.versions kept.now.choice.items) source.new }
 {
-    let Some(item) = item_of_piece(kept, ask) else {
+    let mut buffer = [0; PAYLOAD_BYTES];
+    let Some((item, filled)) = piece_of(source, kept, ask, &mut buffer)? else {
         return Ok(false);
     };
-    let mut buffer = [0; PAYLOAD_BYTES];
-    let filled = filled_with(source, ask, &mut buffer)?;
     Ok(item.is_held(ask.piece, filled, &buffer))
 }
 
@@ -60,12 +59,29 @@ pub fn is_given(
     requires has { HasAll (stream_items kept.now.programs kept.now.versions kept.now.choice.items) source.old }
     ensures { HasAll (stream_items kept.now.programs kept.now.versions kept.now.choice.items) source.new }
 {
-    let Some(_) = item_of_piece(kept, ask) else {
+    let mut buffer = [0; PAYLOAD_BYTES];
+    let Some((_, filled)) = piece_of(source, kept, ask, &mut buffer)? else {
         return Ok(false);
     };
-    let mut buffer = [0; PAYLOAD_BYTES];
-    let filled = filled_with(source, ask, &mut buffer)?;
     Ok(filled == want && buffer.as_slice().starts_with(front))
+}
+
+/// Puts a piece that is kept into the buffer, and answers its item and what the source says of it; None where it isn't kept.
+fn piece_of<'a>(
+    source: &mut VersionSource<'_>,
+    kept: &'a Kept,
+    ask: Ask,
+    buffer: &mut [u8; PAYLOAD_BYTES],
+) -> Result<Option<(Item<'a>, Filled)>, Fault>
+    requires kept { AreKept kept.now.programs kept.now.jobs kept.now.versions kept.now.choice.items }
+    requires has { HasAll (stream_items kept.now.programs kept.now.versions kept.now.choice.items) source.old }
+    ensures { HasAll (stream_items kept.now.programs kept.now.versions kept.now.choice.items) source.new }
+{
+    let Some(item) = item_of_piece(kept, ask) else {
+        return Ok(None);
+    };
+    let filled = filled_with(source, ask, buffer)?;
+    Ok(Some((item, filled)))
 }
 
 /// The item of a piece, where it has such a piece.

@@ -1,14 +1,12 @@
 //! The versions of a program's pictures, made one picture behind the other with every version kept.
-ghost use Rattle.std.specs.Prelude.{◌≤◌, length, IfOk};
-ghost use Rattle.std.specs.Option.{option_copied};
-ghost use Rattle.picture_grammar.specs.Picture.{IsState, MayPrecede};
+ghost use Rattle.std.specs.Prelude.{◌≤◌, length};
 
 use job_report::limits::COARSER_DEFAULT;
-use picture_reader::{PictureFault, check_picture};
 use program_reader::{Program, UnitSource};
 use std::alloc::Global;
 use std::test::Fail;
 use syntax_types::SeqState;
+use unit_states::state_behind;
 use version_maker::{UNIT_BYTES_MOST, UnitVersion, versions_of};
 
 /// The bytes of a unit among those of its video.
@@ -20,22 +18,6 @@ fn unit_of<'a>(video: &'a [u8], unit: &UnitSource) -> &'a [u8]
         .unwrap_or(&[]);
     let few = bytes.len().min(UNIT_BYTES_MOST);
     &bytes[..few]
-}
-
-/// The state behind a unit.
-fn state_behind(
-    alloc: Global,
-    unit: &[u8],
-    before: Option<&SeqState>,
-) -> Result<SeqState, PictureFault>
-    requires unit { length unit.now ≤ UNIT_BYTES_MOST }
-    requires before { MayPrecede (option_copied before) }
-    ensures { IfOk result IsState }
-{
-    match check_picture(alloc, unit, before) {
-        Ok(headers) => Ok(headers.seq),
-        Err(fault) => Err(fault),
-    }
 }
 
 /// Whether the version with this number has these bytes.

@@ -14,7 +14,7 @@ use quant_math::LAST_CODE;
 use requantiser::{VersionRoom, VersionState, coarsen_macroblock};
 use shelf_io::SliceSource;
 use std::alloc::{AllocError, Global};
-use syntax_types::{Macroblock, PicCoding, SeqState};
+use syntax_types::{Macroblock, PicCoding, PictureParameters, SeqState};
 
 /// The most ratios at a time.
 pub const RATIOS_MOST: usize = 8;
@@ -54,15 +54,11 @@ pub fn coarsen_slices(alloc: Global, bytes: &[u8], ratios: &ArrayVec<u16, RATIOS
         };
         let seq = sequence(slice.head);
         let coding = coding(slice.head);
-        coarsen_slice(
-            alloc,
-            &seq,
-            &coding,
-            slice.bytes,
-            ratios,
-            &mut lent,
-            &mut tally,
-        );
+        let picture = PictureParameters {
+            seq: &seq,
+            coding: &coding,
+        };
+        coarsen_slice(alloc, picture, slice.bytes, ratios, &mut lent, &mut tally);
         rest = behind;
     }
     tally
@@ -71,15 +67,14 @@ pub fn coarsen_slices(alloc: Global, bytes: &[u8], ratios: &ArrayVec<u16, RATIOS
 /// Reads and coarsens the macroblocks of a slice.
 fn coarsen_slice(
     alloc: Global,
-    seq: &SeqState,
-    coding: &PicCoding,
+    picture: PictureParameters<'_>,
     bytes: &[u8],
     ratios: &ArrayVec<u16, RATIOS_MOST>,
     lent: &mut Lent,
     tally: &mut Tally,
 )
-    requires weights { HasWeights seq.now }
-    requires is_coding { IsCoding coding.now }
+    requires weights { HasWeights picture.seq.now }
+    requires is_coding { IsCoding picture.coding.now }
     requires bytes { length bytes.now ≤ 2 ^ 60 }
 {
     let mut source = SliceSource::new(bytes);
@@ -90,13 +85,13 @@ fn coarsen_slice(
     if head.code == 0 || head.code > LAST_CODE {
         return;
     }
-    let Ok(mut states) = states_at_start(alloc, coding, ratios.as_slice(), head.code) else {
+    let Ok(mut states) = states_at_start(alloc, picture.coding, ratios.as_slice(), head.code) else {
         return;
     };
-    let mut left = columns(seq);
+    let mut left = columns(picture.seq);
     let mut first = true;
     for _ in 0..left {
-        if !reads_next(&mut reader, coding, first, left, &mut lent.from) {
+        if !reads_next(&mut reader, picture.coding, first, left, &mut lent.from) {
             return;
         }
         left -= lent.from.skipped_before + 1;
@@ -105,7 +100,7 @@ fn coarsen_slice(
         };
         let inner = !first && bits != 0;
         let states = states.as_mut_slice();
-        coarsen(seq, coding, inner, states, &lent.from, &mut lent.to, tally);
+        coarsen(picture, inner, states, &lent.from, &mut lent.to, tally);
         if bits == 0 {
             return;
         }
@@ -156,19 +151,18 @@ fn reads_next(
 
 /// Coarsens the macroblock that was read by all ratios.
 fn coarsen(
-    seq: &SeqState,
-    coding: &PicCoding,
+    picture: PictureParameters<'_>,
     inner: bool,
     states: &mut [VersionState],
     from: &Macroblock,
     to: &mut VersionRoom,
     tally: &mut Tally,
 )
-    requires weights { HasWeights seq.now }
-    requires spelled { IsSpelledMacroblock coding.now from.now }
+    requires weights { HasWeights picture.seq.now }
+    requires spelled { IsSpelledMacroblock picture.coding.now from.now }
 {
     for i in 0..states.len() {
-        let distortion = coarsen_by(seq, coding, inner, &mut states[i], from, to);
+        let distortion = coarsen_by(picture, inner, &mut states[i], from, to);
         if i < RATIOS_MOST {
             tally.distortions[i] = tally.distortions[i].wrapping_add(distortion);
         }
@@ -180,20 +174,19 @@ fn coarsen(
 /// Coarsens a macroblock by one ratio, and gives the distortion. It isn't inlined either.
 #[inline(never)]
 fn coarsen_by(
-    seq: &SeqState,
-    coding: &PicCoding,
+    picture: PictureParameters<'_>,
     inner: bool,
     state: &mut VersionState,
     from: &Macroblock,
     to: &mut VersionRoom,
 ) -> u64
-    requires weights { HasWeights seq.now }
-    requires spelled { IsSpelledMacroblock coding.now from.now }
+    requires weights { HasWeights picture.seq.now }
+    requires spelled { IsSpelledMacroblock picture.coding.now from.now }
 {
     if u16::MAX - from.skipped_before <= state.skipped {
         return 0;
     }
-    coarsen_macroblock(seq, coding, inner, state, from, to).distortion
+    coarsen_macroblock(picture, inner, state, from, to).distortion
 }
 
 /// The coefficients of a macroblock, without DC coefficients of intra blocks.

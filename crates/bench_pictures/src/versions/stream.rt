@@ -6,9 +6,10 @@ use crate::versions::made::{RATIOS_MOST, Task, made_of};
 use crate::versions::totals::Totals;
 use arrayvec::ArrayVec;
 use es_units::{UnitFault, split_units};
-use picture_reader::{PictureFault, check_picture};
+use picture_reader::PictureFault;
 use std::alloc::Global;
 use syntax_types::SeqState;
+use unit_states::state_behind;
 use version_maker::{Ladder, UNIT_BYTES_MOST};
 
 /// What was made of a stream.
@@ -99,20 +100,4 @@ fn one_more(
     }
     made.taken = made.taken.wrapping_add(1);
     Ok(behind)
-}
-
-/// The state behind a unit.
-fn state_behind(
-    alloc: Global,
-    unit: &[u8],
-    before: Option<&SeqState>,
-) -> Result<SeqState, PictureFault>
-    requires unit { length unit.now ≤ UNIT_BYTES_MOST }
-    requires before { MayPrecede (option_copied before) }
-    ensures { IfOk result IsState }
-{
-    match check_picture(alloc, unit, before) {
-        Ok(headers) => Ok(headers.seq),
-        Err(fault) => Err(fault),
-    }
 }

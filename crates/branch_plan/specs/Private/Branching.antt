@@ -1,19 +1,25 @@
 -- A tree while it is branched, and when it ends.
-use Rattle.std.specs.Prelude.{◌≡◌, ◌≢◌, ℕ, ◌==◌, cond, sum_by, ◌+◌, ◌<◌, ◌≤◌, ◌⊎◌, List, [], ◌∷◌, ◌++◌, length, map, Option, Some, IsPermutation}
+use Rattle.std.specs.Prelude.{◌≡◌, ◌≢◌, ℕ, ◌==◌, cond, sum_by, ◌+◌, ◌*◌, ◌<◌, ◌≤◌, ◌⊎◌, List, [], ◌∷◌, ◌++◌, length, map, Option, Some, IsPermutation}
 use Rattle.std.specs.BinaryHeap.{heap_items}
-use Rattle.std.specs.List.{AllByRecursion, Contains}
+use Rattle.std.specs.List.{AllByRecursion, Contains, flat_map}
 use Rattle.std.specs.declared.cmp.Reverse.{Reverse}
 use Rattle.version_table.specs.declared.table.Table.{Table}
+use Rattle.version_table.specs.Table.{units_of}
+use Rattle.dual_bounds.specs.declared.constants.TheConstants.{WINDOWS_MOST}
 use Rattle.dual_bounds.specs.Bounds.{bound_of_value}
 use Rattle.dual_bounds.specs.Fixed.{FixesVersions}
 use Rattle.dual_bounds.specs.Values.{value_of_windows}
 use Rattle.buffer_windows.specs.declared.windows.BufferWindow.{BufferWindow as SeeingWindow}
+use Rattle.buffer_windows.specs.Bounds.{bound_of_buffer_windows}
 use Rattle.bound_certificate.specs.declared.cert.Cert.{Cert}
+use Rattle.bound_certificate.specs.declared.limits.TheConstants.{CERT_BYTES_MOST}
 use Rattle.bound_certificate.specs.declared.cert.Node.{Node}
+use Rattle.bound_certificate.specs.Spelling.{bytes_of_node}
 use Rattle.certificate_checker.specs.Checked.{IsAtMost}
 use Rattle.certificate_checker.specs.Faults.{IsRight}
 use Rattle.certificate_checker.specs.Shown.{bound_of_leaf, fix, unfixed, versions_of}
 use Rattle.certificate_checker.specs.Walk.{IsLeaf, Shows, Walks}
+use Rattle.branch_plan.specs.declared.limits.TheConstants.{BRANCH_BYTES, HEAD_BYTES, NODE_BYTES_MOST}
 use Rattle.branch_plan.specs.declared.arena.Link.{Link}
 use Rattle.branch_plan.specs.declared.branching.Growth.{Growth}
 use Rattle.branch_plan.specs.declared.branching.Ended.{Ended as EndedTree}
@@ -23,7 +29,6 @@ use Rattle.branch_plan.specs.declared.children.Place.{Place}
 use Rattle.branch_plan.specs.declared.leaves.Leaf.{Leaf}
 use Rattle.branch_plan.specs.declared.branching.Step.TheVariants.{Grown, Ended}
 use Rattle.branch_plan.specs.Plan.{BoundsAll}
-use Rattle.branch_plan.specs.Bound.{bound_where_few}
 use Rattle.branch_plan.specs.Tree.{IsSpent}
 use Rattle.branch_plan.specs.Private.Forest.{Follows, Forest, Stands, ids_then, occurs, size, width}
 use Rattle.branch_plan.specs.Private.Growth.{ArePaths, AreLinked, IsOrder, IsOrdered, StandOnce, link_of, next_of, node_of}
@@ -31,6 +36,10 @@ use Rattle.branch_plan.specs.Private.Known.{IsKnown}
 use Rattle.branch_plan.specs.Private.Leaves.{IsFreeUnit, IsLeafOn, MayBranch, MayStand}
 use Rattle.branch_plan.specs.Private.Found.{AreSearchedIn, EachBranchFits, IsFounded, IsNoLower}
 use Rattle.branch_plan.specs.Private.Valued.{AreValued, IsValuedBy}
+
+-- the bytes of nodes in a certificate
+abbrev pub tree_bytes : List Node → ℕ
+tree_bytes nodes = length (flat_map bytes_of_node nodes)
 
 -- the nodes are one tree, in which each stands once, and the links tell their order and paths
 pub record IsTree (table : Table) (nodes : List Node) (links : List Link) (path : ℕ → List (Option ℕ)) (tree : Forest) : Type 0 where
@@ -72,6 +81,11 @@ pub record IsGrown (table : Table) (most root : ℕ) (nodes : List Node) (links 
   pub are_open : (leaf : Reverse (ℕ × ℕ)) → Contains leaves leaf → IsOpenAt table nodes path root leaf.0.0 leaf.0.1
   pub single : (j : ℕ) → times_in j leaves ≤ 1
 
+-- the nodes of a tree have so many bytes, and a certificate has room for them
+pub record HasBytes (table : Table) (nodes : List Node) (bytes : ℕ) : Type 0 where
+  pub are : bytes ≡ tree_bytes nodes
+  pub within : HEAD_BYTES + length (units_of table) + bytes ≤ CERT_BYTES_MOST
+
 -- a tree, its leaves in a heap, and a choice that is known
 pub record IsGrowth (table : Table) (most : ℕ) (growth : Growth) : Type 0 where
   pub grown : IsGrown table most growth.root growth.arena.nodes.items growth.arena.links.items (heap_items growth.leaves) growth.known.distortion
@@ -81,6 +95,7 @@ pub record IsGrowth (table : Table) (most : ℕ) (growth : Growth) : Type 0 wher
   pub root : BoundsAll table growth.root
   pub founded : IsFounded table most growth.found growth.time growth.root growth.arena.nodes.items
   pub nodes : length growth.arena.nodes.items ≤ most
+  pub bytes : HasBytes table growth.arena.nodes.items growth.bytes
 
 -- the same, where a leaf of least bound, below the distortion, has been taken out of the heap
 pub record IsTaken (table : Table) (most : ℕ) (growth : Growth) (bound number : ℕ) : Type 0 where
@@ -98,10 +113,12 @@ pub record IsTaken (table : Table) (most : ℕ) (growth : Growth) (bound number 
   pub root : BoundsAll table growth.root
   pub founded : IsFounded table most growth.found growth.time growth.root growth.arena.nodes.items
   pub nodes : length growth.arena.nodes.items ≤ most
+  pub bytes : HasBytes table growth.arena.nodes.items growth.bytes
 
 -- a search of so many nodes may end at these, whose bound is this
 abbrev pub IsSpentAt : Table → (most : ℕ) → List Node → (bound : ℕ) → Type 0
-IsSpentAt table most nodes bound = (cert : Cert) → cert.nodes ≡ nodes → cert.bound ≡ bound → IsSpent table most cert
+IsSpentAt table most nodes bound =
+    (cert : Cert) → cert.nodes ≡ nodes → cert.bound ≡ bound → length cert.choice ≡ length (units_of table) → IsSpent table most cert
 
 -- a tree that isn't branched any more: its bound is the distortion, or the nodes are spent
 pub record Ends (table : Table) (most : ℕ) (ended : EndedTree) : Type 0 where
@@ -111,11 +128,12 @@ pub record Ends (table : Table) (most : ℕ) (ended : EndedTree) : Type 0 where
   pub once : StandOnce (length ended.arena.nodes.items) ids
   pub as_many : length ended.arena.links.items ≡ length ended.arena.nodes.items
   pub nodes : length ended.arena.nodes.items ≤ most
+  pub bytes : HEAD_BYTES + length (units_of table) + tree_bytes (map (node_of ended.arena.nodes.items) ids) ≤ CERT_BYTES_MOST
   pub each : (j : ℕ) → j < length ended.arena.nodes.items → MayStand table most (node_of ended.arena.nodes.items j)
   pub known : IsKnown table ended.known
   pub shows : Walks table (unfixed table) (map (node_of ended.arena.nodes.items) ids) (Shows (Some ended.bound) [])
   pub time : bound_of_value (value_of_windows table (unfixed table) ended.found.time.items) ≤ ended.bound
-  pub buffers : EachBranchFits table ended.arena.nodes.items → (bound : ℕ) → bound_where_few table most (unfixed table) ended.found.buffers ≡ Some bound → bound ≤ ended.bound
+  pub buffers : EachBranchFits table ended.arena.nodes.items → (bound : ℕ) → bound_of_buffer_windows table (unfixed table) ended.found.buffers ≡ Some bound → bound ≤ ended.bound
   pub at_most : ended.bound ≤ ended.known.distortion
   pub spent : ended.bound < ended.known.distortion → IsSpentAt table most (map (node_of ended.arena.nodes.items) ids) ended.bound
 
@@ -161,6 +179,25 @@ pub record AreLinkedBehind (i unit count : ℕ) (links more : List Link) : Type 
   pub rise : (j : ℕ) → length links ≤ j → j + 1 < length links + count → next_of more j ≡ j + 1
   pub last : (j : ℕ) → j + 1 ≡ length links + count → next_of more j ≡ next_of links i
 
+-- no leaf of a search in which these windows that see the buffers were found has more bytes than this
+pub record IsLeafMost (seeing : List SeeingWindow) (bytes : ℕ) : Type 0 where
+  pub seen : 3 + 25 * length seeing ≤ bytes
+  pub time : 3 + 24 * WINDOWS_MOST ≤ bytes
+  pub limit : bytes ≤ NODE_BYTES_MOST
+
+-- a certificate has so many bytes with the tree and a branch more of so many children, whatever leaves these are
+abbrev pub bytes_behind : Table → Growth → (versions leaf_most : ℕ) → ℕ
+bytes_behind table growth versions leaf_most = HEAD_BYTES + length (units_of table) + growth.bytes + BRANCH_BYTES + versions * leaf_most
+
+-- a certificate has room for it, or it may not have
+abbrev pub HasRoom : Table → Growth → (versions : ℕ) → Type 0
+HasRoom table growth versions =
+    (leaf_most : ℕ) × IsLeafMost growth.found.buffers leaf_most × (bytes_behind table growth versions leaf_most ≤ CERT_BYTES_MOST)
+
+abbrev pub IsFull : Table → Growth → (versions : ℕ) → Type 0
+IsFull table growth versions =
+    (leaf_most : ℕ) × IsLeafMost growth.found.buffers leaf_most × (CERT_BYTES_MOST < bytes_behind table growth versions leaf_most)
+
 -- where a tree is branched: a leaf that was taken, with what is fixed there, and a free unit, for whose versions there is room
 pub record IsPlace (table : Table) (most : ℕ) (growth : Growth) (place : Place) : Type 0 where
   pub bound : ℕ
@@ -168,6 +205,7 @@ pub record IsPlace (table : Table) (most : ℕ) (growth : Growth) (place : Place
   pub fixed : place.fixed ≡ taken.grown.path place.number
   pub free : IsFreeUnit table place.fixed place.unit
   pub room : length growth.arena.nodes.items + versions_of table place.unit ≤ most
+  pub bytes : HasRoom table growth (versions_of table place.unit)
 
 -- a tree with one more branch
 pub record IsBranched (table : Table) (most : ℕ) (old growth : Growth) : Type 0 where

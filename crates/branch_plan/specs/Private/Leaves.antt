@@ -1,5 +1,5 @@
 -- The leaves that a search makes.
-use Rattle.std.specs.Prelude.{◌≡◌, ℕ, ◌*◌, ◌<◌, ◌≤◌, List, length, Option, Some, None}
+use Rattle.std.specs.Prelude.{◌≡◌, ℕ, ◌<◌, ◌≤◌, List, length, Option, Some, None}
 use Rattle.version_table.specs.declared.table.Table.{Table}
 use Rattle.version_table.specs.Table.{units_of}
 use Rattle.dual_bounds.specs.declared.constants.TheConstants.{WINDOWS_MOST}
@@ -11,9 +11,8 @@ use Rattle.certificate_checker.specs.Faults.{IsFree, IsRight}
 use Rattle.certificate_checker.specs.Shown.{bound_of_leaf, versions_of, windows_in}
 use Rattle.certificate_checker.specs.Walk.{IsLeaf}
 use Rattle.branch_plan.specs.declared.leaves.Leaf.{Leaf}
-use Rattle.branch_plan.specs.declared.limits.TheConstants.{BUFFER_WINDOWS_IN_ALL, FEW_WINDOWS_MOST, NODES_WITH_MANY_WINDOWS_MOST}
 use Rattle.branch_plan.specs.Tree.{BranchesOnMany}
-use Rattle.branch_plan.specs.Private.Found.{AreSearchedIn, buffer_windows_in}
+use Rattle.branch_plan.specs.Private.Found.{AreSearchedIn, AreShared}
 use Rattle.branch_plan.specs.Private.Known.{IsKnown}
 
 -- a unit has two or more versions, of which none is fixed
@@ -34,8 +33,7 @@ pub record MayStand (table : Table) (most : ℕ) (node : Node) : Type 0 where
   pub many : BranchesOnMany table node
   pub version : IsOfVersion 3 node
   pub windows : length (windows_in node) ≤ WINDOWS_MOST
-  pub few : NODES_WITH_MANY_WINDOWS_MOST < most → length (windows_in node) ≤ FEW_WINDOWS_MOST
-  pub buffers : most * length (buffer_windows_in node) ≤ BUFFER_WINDOWS_IN_ALL
+  pub few : AreShared table most (length (windows_in node))
 
 -- a leaf that may be branched, where these versions are fixed: it has this bound, and a unit is free
 pub record MayBranch (table : Table) (fixed : List (Option ℕ)) (node : Node) (bound : ℕ) : Type 0 where

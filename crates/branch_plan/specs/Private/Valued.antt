@@ -4,7 +4,7 @@ use Rattle.version_table.specs.declared.table.Table.{Table}
 use Rattle.dual_bounds.specs.declared.windows.Window.{Window as PricedWindow}
 use Rattle.dual_bounds.specs.Values.{value_of_windows}
 use Rattle.buffer_windows.specs.declared.windows.BufferWindow.{BufferWindow as SeeingWindow}
-use Rattle.buffer_windows.specs.Bounds.{each_has_left}
+use Rattle.buffer_windows.specs.Bounds.{bound_of_buffer_windows, each_has_left}
 use Rattle.buffer_windows.specs.Values.{value_of_buffer_windows}
 use Rattle.bound_certificate.specs.declared.cert.Node.{Node}
 use Rattle.bound_certificate.specs.declared.cert.Node.TheVariants.{Branch, Dual, Run, Open, Window, BufferWindow}
@@ -13,7 +13,6 @@ use Rattle.branch_plan.specs.declared.values.TheConstants.{UNKNOWN}
 use Rattle.branch_plan.specs.declared.values.KeptValue.{KeptValue}
 use Rattle.branch_plan.specs.declared.values.Valued.{Valued as ValuedWindows}
 use Rattle.branch_plan.specs.declared.values.Values.{Values}
-use Rattle.branch_plan.specs.Bound.{bound_where_few}
 use Rattle.branch_plan.specs.Private.Growth.{node_of}
 
 -- what is kept is the value of windows of time where these versions are fixed
@@ -29,11 +28,11 @@ pub record AreKept (table : Table) (fixed : List (Option ℕ)) (windows : List P
   pub time : IsTimeKept table fixed windows values.time
   pub seen : IsSeenKept table fixed seeing values.seen
 
--- windows that see the buffers give this bound in a search of so many nodes, and what they come to is kept; or they give none
-abbrev pub IsSeenBy : Table → (most : ℕ) → (fixed : List (Option ℕ)) → List SeeingWindow → Option ValuedWindows → Type 0
-IsSeenBy table most fixed seeing seen =
-    MatchOption seen (bound_where_few table most fixed seeing ≡ None)
-    (λ own. (bound_where_few table most fixed seeing ≡ Some own.bound) × IsSeenKept table fixed seeing own.kept)
+-- windows that see the buffers give this bound, and what they come to is kept; or they give none
+abbrev pub IsSeenBy : Table → (fixed : List (Option ℕ)) → List SeeingWindow → Option ValuedWindows → Type 0
+IsSeenBy table fixed seeing seen =
+    MatchOption seen (bound_of_buffer_windows table fixed seeing ≡ None)
+    (λ own. (bound_of_buffer_windows table fixed seeing ≡ Some own.bound) × IsSeenKept table fixed seeing own.kept)
 
 -- what is kept with a leaf is what its windows come to, of which those that see the buffers are the root's
 abbrev pub IsValuedBy : Table → List SeeingWindow → (fixed : List (Option ℕ)) → Node → Values → Type 0

@@ -1,6 +1,6 @@
 -- The next program is read.
-use Rattle.std.specs.Prelude.{◌≡◌, ℕ, List, length, Option}
-use Rattle.shelf_io.specs.Files.{Files, Lacks}
+use Rattle.std.specs.Prelude.{◌≡◌, ℕ, ◌+◌, ◌≤◌, List, length, Option}
+use Rattle.shelf_io.specs.Files.{Files, IfTold, Lacks}
 use Rattle.shelf_io.specs.Counts.{Rose, ShelfCounts}
 use Rattle.job_report.specs.declared.job.Form.{Form}
 use Rattle.program_reader.specs.declared.program.Program.{Program}
@@ -9,27 +9,30 @@ use Rattle.program_reader.specs.declared.program_fault.ProgramFault.TheVariants 
 use Rattle.job_programs.specs.declared.source_fault.SourceFault.{SourceFault}
 use Rattle.job_programs.specs.declared.source_fault.ProgramsFault.{ProgramsFault}
 use Rattle.job_programs.specs.declared.source_fault.ProgramsFault.TheVariants.{Refused, Failed, Missing, OutOfMemory}
-use Rattle.job_programs.specs.Told.{HoldsContent}
-use Rattle.job_programs.specs.Private.Behind.{IsProgramBehind, IsRefusedBehind}
+use Rattle.program_reader.specs.declared.limits.TheConstants.{FILE_BYTES_MOST, UNITS_MOST}
+use Rattle.program_reader.specs.Programs.{IsProgramOfFile}
+use Rattle.program_reader.specs.ReadProgram.{IsReadProgram}
+use Rattle.job_programs.specs.Private.Behind.{IsRefusedBehind, KeepsTime}
 
 -- what the next program's file is refused for, or want of memory
 abbrev pub IsNextFault : (slot start bytes units : ℕ) → (form : Form) → (number : ℕ) → (drop : List ℕ) → (keeps : Program → Type 0) → (content : List ℕ) → ProgramFault → Type 0
 IsNextFault slot start bytes units form number drop keeps content (faults.Refused kind at) = IsRefusedBehind slot start bytes units form number drop keeps content kind at
 IsNextFault slot start bytes units form number drop keeps content faults.OutOfMemory = Unit {0}
 
--- the next program, of a file with so many bytes, by the file's content
+-- The next program was read, of a file with so many bytes, and the limits that it shares with those before it are kept. Where the shelf tells its files it is
+-- that of the file's content.
 pub record IsNextOn (told : Option Files) (name : List ℕ) (slot start bytes units : ℕ) (form : Form) (number : ℕ) (drop : List ℕ) (keeps : Program → Type 0) (size : ℕ) (program : Program) : Type 0 where
-  pub content : List ℕ
-  pub held : HoldsContent told name content
-  pub size_is : size ≡ length content
-  pub next : IsProgramBehind slot start bytes units form number drop keeps content program
+  pub read : IsReadProgram start program
+  pub few_bytes : bytes + size ≤ FILE_BYTES_MOST
+  pub few_units : units + length program.units ≤ UNITS_MOST
+  pub within : KeepsTime slot program
+  pub near : keeps program
+  pub held : IfTold told name (λ content. (size ≡ length content) × IsProgramOfFile form content number drop start program)
 
--- the refusal of the next program, by its file's content
+-- the refusal of the next program; where the shelf tells its files it is that of the file's content
 pub record IsNextRefusedOn (told : Option Files) (name : List ℕ) (slot start bytes units : ℕ) (form : Form) (number : ℕ) (drop : List ℕ) (keeps : Program → Type 0) (place : ℕ) (fault : SourceFault) : Type 0 where
   pub place_is : fault.program ≡ place
-  pub content : List ℕ
-  pub held : HoldsContent told name content
-  pub refused : IsRefusedBehind slot start bytes units form number drop keeps content fault.kind fault.at
+  pub held : IfTold told name (λ content. IsRefusedBehind slot start bytes units form number drop keeps content fault.kind fault.at)
 
 -- why the next program isn't read
 abbrev pub HasNextCause : Option Files → (name : List ℕ) → (slot start bytes units : ℕ) → (form : Form) → (number : ℕ) → (drop : List ℕ) → (keeps : Program → Type 0) → (place : ℕ) → (old new : ShelfCounts) → (since_fault : ℕ)

@@ -3,7 +3,6 @@ use Rattle.std.specs.Prelude.{◌≡◌, ℕ, ◌+◌, Bool, true, false, List, 
 use Rattle.std.specs.Option.{option_to_list}
 use Rattle.ts_demux.specs.declared.demuxed.PesUnit.{PesUnit}
 use Rattle.pes_passing.specs.declared.open_packet.OpenPacket.{OpenPacket}
-use Rattle.pes_passing.specs.declared.passing_packets.PassingPackets.{PassingPackets}
 
 -- a packet with one payload more
 abbrev pub with_payload : List ℕ → PesUnit → PesUnit
@@ -25,6 +24,6 @@ ended_behind true ended held = ended ++ option_to_list held
 ended_behind false ended held = ended
 
 -- one that has ended is held; else the last one is
-abbrev pub Holds : Bool → PassingPackets → Type 0
-Holds true packets = IsSome packets.pes.held
-Holds false packets = packets.pes.begun ≡ None
+abbrev pub Holds : Bool → OpenPacket → Type 0
+Holds true packet = IsSome packet.held
+Holds false packet = packet.begun ≡ None

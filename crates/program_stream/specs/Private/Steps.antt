@@ -1,8 +1,7 @@
 -- Where a walk over the elements of a file stands.
-use Rattle.std.specs.Prelude.{◌≡◌, ℕ, ◌<◌, ◌≤◌, ◌⊎◌, List, ◌++◌, length, drop, Result, Ok, Err}
+use Rattle.std.specs.Prelude.{◌≡◌, ℕ, ◌<◌, ◌≤◌, List, ◌++◌, length, drop, Result, Ok, Err}
 use Rattle.std.specs.List.{AllByRecursion}
 use Rattle.program_stream.specs.declared.split_fault.SplitFault.{SplitFault}
-use Rattle.program_stream.specs.declared.split_fault.SplitFault.TheVariants.{OutOfMemory}
 use Rattle.program_stream.specs.declared.found_elements.Step.{Step}
 use Rattle.program_stream.specs.declared.found_elements.Step.TheVariants.{End, Next}
 use Rattle.program_stream.specs.declared.stream_walk.StreamWalk.{StreamWalk}
@@ -14,12 +13,6 @@ pub record AreBefore (file : List ℕ) (elements : List Element) (at : ℕ) : Ty
   pub sound : AllByRecursion IsSoundElement elements
   pub place : at ≡ length (all_spelled elements)
   pub front : file ≡ all_spelled elements ++ drop at file
-
--- they are taken
-pub record StandsAt (file ids : List ℕ) (at : ℕ) (walk : StreamWalk) : Type 0 where
-  pub elements : List Element
-  pub before : AreBefore file elements at
-  pub walked : HasWalked ids elements walk
 
 -- all elements of the file are taken
 pub record StandsBehind (file ids : List ℕ) (cut : ℕ) (walk : StreamWalk) : Type 0 where
@@ -33,12 +26,6 @@ IsWithin bytes (End cut) = Unit {0}
 IsWithin bytes (Next next) = next ≤ bytes
 
 -- what comes of the elements from a place on
-abbrev pub Steps : List ℕ → List ℕ → ℕ → Result Step SplitFault → StreamWalk → Type 0
-Steps file ids at (Ok (End cut)) walk = StandsBehind file ids cut walk
-Steps file ids at (Ok (Next next)) walk = StandsAt file ids next walk × (at < next)
-Steps file ids at (Err fault) walk = (fault ≡ OutOfMemory) ⊎ IsFirstRefusal file fault
-
--- the same where none is taken
 abbrev pub Finds : List ℕ → Result Step SplitFault → Type 0
 Finds file (Ok (End cut)) = (elements : List Element) × AreElements file elements cut
 Finds file (Ok (Next next)) = (elements : List Element) × AreBefore file elements next

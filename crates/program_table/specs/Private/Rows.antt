@@ -1,11 +1,10 @@
 -- The units of a program while its row is made.
-use Rattle.std.specs.Prelude.{◌≡◌, ℕ, ◌+◌, ◌*◌, ◌≤◌, List, [], ◌∷◌, ◌++◌, length, map, All, Option, None}
+use Rattle.std.specs.Prelude.{◌≡◌, ℕ, ◌+◌, ◌*◌, ◌≤◌, List, [], ◌∷◌, ◌++◌, length, map, All, Option}
 use Rattle.job_report.specs.declared.job.ProgramJob.{ProgramJob}
 use Rattle.syntax_types.specs.declared.picture.SeqState.{SeqState}
 use Rattle.version_table.specs.declared.table.Unit.{Unit as CodedUnit}
 use Rattle.version_table.specs.declared.table.Version.{Version}
 use Rattle.version_table.specs.declared.table.ProgramRow.{ProgramRow}
-use Rattle.picture_grammar.specs.Picture.{MayPrecede}
 use Rattle.program_reader.specs.declared.program.Program.{Program}
 use Rattle.pes_units.specs.VideoHeader.{AreInRange, IsBesidePts, written_pes_header}
 use Rattle.program_reader.specs.declared.program.UnitSource.{UnitSource}
@@ -14,16 +13,8 @@ use Rattle.program_reader.specs.declared.unit_sizes.UnitSizes.{UnitSizes}
 use Rattle.version_laws.specs.declared.limits.TheConstants.{UNIT_VERSION_BYTES_MOST, UNIT_VERSION_DISTORTION_MOST}
 use Rattle.version_maker.specs.declared.version.UnitVersion.{UnitVersion}
 use Rattle.version_maker.specs.declared.version.VersionSize.{VersionSize}
-use Rattle.version_maker.specs.Versions.{AreVersions}
-use Rattle.version_source.specs.Sendable.{SpellInOrder, bytes_of_unit}
 use Rattle.version_source.specs.Versions.{AreAllVersions, AreVideoVersions, ratios_of}
-use Rattle.program_table.specs.Table.{program_rows, unit_row, unit_rows}
-
--- a unit of this weight with all its versions behind a state
-pub record IsUnitRow (es coarser : List ℕ) (before : Option SeqState) (weight : ℕ) (unit : UnitSource) (row : CodedUnit) : Type 0 where
-  pub versions : List UnitVersion
-  pub are_versions : AreVersions before (bytes_of_unit es unit) coarser versions
-  pub row_is : row ≡ unit_row weight unit versions
+use Rattle.program_table.specs.Table.{program_rows, unit_rows}
 
 -- units with all their versions, from a state on
 pub record AreUnitRows (es coarser : List ℕ) (before : Option SeqState) (weight drift : ℕ) (units : List UnitSource) (rows : List CodedUnit) : Type 0 where
@@ -57,13 +48,6 @@ sized_row weight unit sizes =
 abbrev pub sized_rows : (weight drift : ℕ) → List UnitSource → List UnitSizes → List CodedUnit
 sized_rows weight drift (unit ∷ units) (sizes ∷ more) = sized_row (unit_weight weight drift unit units) unit sizes ∷ sized_rows weight drift units more
 sized_rows weight drift units sizes = []
-
--- The rows of the units of a video before those that are left: with the versions of these behind the state, and their rows, they make all.
-pub record AreUnitRowsSoFar (es coarser : List ℕ) (weight drift : ℕ) (units left : List UnitSource) (before : Option SeqState) (rows : List CodedUnit) : Type 0 where
-  pub may_precede : MayPrecede before
-  pub spelled : SpellInOrder es before left
-  pub all : (more : List (List UnitVersion)) → AreVideoVersions es coarser before left more
-      → (versions : List (List UnitVersion)) × AreVideoVersions es coarser None units versions × (unit_rows weight drift units versions ≡ rows ++ unit_rows weight drift left more)
 
 -- The rows of the programs before those that are left: with the versions of these, and their rows, they make all.
 pub record AreProgramRowsSoFar (jobs jobs_left : List ProgramJob) (programs left : List Program) (rows : List ProgramRow) : Type 0 where

@@ -3,7 +3,7 @@ use Rattle.std.specs.Prelude.{ℕ, List, Option}
 use Rattle.command_words.specs.Answer.{Answer}
 use Rattle.command_words.specs.Command.{Command, IsSaid}
 use Rattle.command_words.specs.Ended.{Performs}
-use Rattle.command_words.specs.Outside.{ShelfFacts}
+use Rattle.shelf_io.specs.Facts.{ShelfFacts}
 use Rattle.remux_core.specs.Tasks.{task_of}
 
 -- the work of a command's words was done, up to the report

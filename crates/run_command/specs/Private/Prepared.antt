@@ -13,7 +13,8 @@ use Rattle.command_words.specs.declared.command.RunFiles.{RunFiles}
 use Rattle.command_words.specs.declared.ended.Ended.{Ended}
 use Rattle.command_words.specs.declared.status.Status.TheVariants as statuses
 use Rattle.command_words.specs.Ended.{answer_of, EndsAtFault, EndsBy}
-use Rattle.command_words.specs.Outside.{CountsGrow, ShelfFacts, shelf_facts}
+use Rattle.shelf_io.specs.Facts.{ShelfFacts, shelf_facts}
+use Rattle.command_words.specs.Outside.{CountsGrow}
 use Rattle.job_files.specs.JobTable.{IsJobTable}
 use Rattle.job_report.specs.ValidJob.{IsValidJob}
 use Rattle.shelf_io.specs.Asked.{AsksNothing}

@@ -17,7 +17,13 @@ pub record StandBefore (file : List ℕ) (map_pid n : ℕ) (readers : SectionPla
   pub pat : IsBeforePlace file n readers.pat
   pub map : IsBeforePlace file n readers.map
 
--- what comes of the n-th packet: itself where it is of one of the PIDs, or what refuses it for one of them
+-- The n-th packet isn't refused for either PID, and is this place where it is of one of them.
+pub record AddsSection (file : List ℕ) (map_pid n : ℕ) (found : Option Place) : Type 0 where
+  pub found_is : option_to_list found ≡ map (place_of file) (if is_of_pid file pat_pid n || is_of_pid file map_pid n then n ∷ [] else [])
+  pub pat_sound : (fault : DemuxFault) → IsStreamFault file (pat_pid ∷ []) n fault → ⊥
+  pub map_sound : (fault : DemuxFault) → IsStreamFault file (map_pid ∷ []) n fault → ⊥
+
+-- what comes of the n-th packet, or what refuses it for one of the PIDs
 abbrev pub TakesSection : List ℕ → (map_pid n : ℕ) → Result (Option Place) DemuxFault → Type 0
-TakesSection file map_pid n (Ok found) = option_to_list found ≡ map (place_of file) (if is_of_pid file pat_pid n || is_of_pid file map_pid n then n ∷ [] else [])
+TakesSection file map_pid n (Ok found) = AddsSection file map_pid n found
 TakesSection file map_pid n (Err fault) = IsStreamFault file (pat_pid ∷ []) n fault ⊎ IsStreamFault file (map_pid ∷ []) n fault

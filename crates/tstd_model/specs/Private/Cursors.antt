@@ -5,8 +5,8 @@ use Rattle.stream_constants.specs.declared.packets.TheConstants.{PACKET_BYTES}
 use Rattle.tstd_model.specs.declared.packet_bytes.PacketByte.{PacketByte}
 use Rattle.tstd_model.specs.declared.packet_bytes.PartsLeft.{PartsLeft}
 use Rattle.tstd_model.specs.declared.passing.Wanted.{Wanted}
-use Rattle.tstd_model.specs.declared.passing.Wanted.TheVariants.{Payload, DataAlone}
-use Rattle.tstd_model.specs.PacketBytes.{Arrival, PacketPart, Overhead, PesHeader, Data, parts_of, is_payload, is_data}
+pub use Rattle.tstd_model.specs.Wanted.{is_wanted}
+use Rattle.tstd_model.specs.PacketBytes.{Arrival, PacketPart, Overhead, PesHeader, Data, parts_of}
 
 -- one step of a cursor: an item and what is left behind it, or none where nothing is left
 abbrev pub Gives : {X : Type 0} → Option X → (before after : List X) → Type 0
@@ -56,11 +56,6 @@ parts_in bytes = map (λ byte. byte.part) bytes
 -- the bytes whose part passes a test
 abbrev pub bytes_with : (PacketPart → Bool) → List PacketByte → List PacketByte
 bytes_with test bytes = filter (λ byte. test byte.part) bytes
-
--- the parts that are wanted
-abbrev pub is_wanted : Wanted → PacketPart → Bool
-is_wanted Payload part = is_payload part
-is_wanted DataAlone part = is_data part
 
 -- the instants of the wanted bytes
 abbrev pub wanted_instants : Wanted → List PacketByte → List ℕ

@@ -1,19 +1,13 @@
 -- What is held of a video whose units are sent.
-use Rattle.std.specs.Prelude.{◌≡◌, ℕ, zero, suc, List, [], ◌∷◌, Option, Some}
+use Rattle.std.specs.Prelude.{◌≡◌, ℕ, List, Option}
 use Rattle.syntax_types.specs.declared.picture.SeqState.{SeqState}
 use Rattle.program_reader.specs.declared.program.UnitSource.{UnitSource}
 use Rattle.version_maker.specs.declared.version.UnitVersion.{UnitVersion}
 use Rattle.version_maker.specs.Versions.{AreVersions}
-use Rattle.version_source.specs.Sendable.{LeavesState, bytes_of_unit}
+use Rattle.version_source.specs.Sendable.{bytes_of_unit}
 use Rattle.version_source.specs.Pieces.{pes_packet}
 use Rattle.version_source.specs.Versions.{chosen_bytes}
-
--- behind a state, so many units of a video leave another one
-abbrev pub LeaveBehind : List ℕ → Option SeqState → List UnitSource → (count : ℕ) → Option SeqState → Type 0
-LeaveBehind es before units zero after = before ≡ after
-LeaveBehind es before [] (suc count) after = ⊥
-LeaveBehind es before (unit ∷ units) (suc count) after =
-    (next : SeqState) × LeavesState before (bytes_of_unit es unit) next × LeaveBehind es (Some next) units count after
+pub use Rattle.version_source.specs.Sendable.{LeaveBehind}
 
 -- these bytes are the PES packet of a unit in the version of this number, whichever its versions are
 abbrev pub IsPacketOf : (es coarser : List ℕ) → Option SeqState → UnitSource → (index : ℕ) → List ℕ → Type 0

@@ -34,7 +34,7 @@ returns c job contents programs table choice stream valid are of table_valid fit
     let ready : AreReady job.programs programs = programs-ready c.programs_can_be_sent.ensures.taken_out job programs (contents, are) in
     let rows = c.slots_are_rows.ensures job contents programs table choice slots of.versions valid are of table_valid fits list of.are_versions in
     let back = c.programs_are_read_back.ensures job contents programs table choice slots in_slots.versions valid are of table_valid fits list in_slots.are_versions bytes in
-    let size : length stream ≡ 188 * slots.slots = c.stream_has_slots.ensures job contents programs table choice slots stream valid are of table_valid fits list in_slots in
+    let size : length stream ≡ 188 * slots.slots = c.stream_has_slots.ensures job programs table choice slots stream valid (c.programs_of_contents_are_read.ensures job contents programs are bytes) of table_valid fits list in_slots in
     let taken : IsTakenAt stream (0 + place) number =
     subst (λ (file : _). IsTakenAt file (0 + place) number) (sym in_slots.stream_is)
     (taken-at _ 0 job.programs contents programs in_slots.versions choice back place number there) in

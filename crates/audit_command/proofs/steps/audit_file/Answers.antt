@@ -8,7 +8,7 @@ use Rattle.run_report.specs.Report.{source_report}
 use Rattle.shelf_io.specs.Files.{Files, Lacks}
 use Rattle.command_words.specs.declared.status.Status.TheVariants.{SourceRefused, ReadFault, Missing}
 use Rattle.command_words.specs.Ended.{answer_of}
-use Rattle.command_words.specs.Outside.{shelf_facts}
+use Rattle.shelf_io.specs.Facts.{shelf_facts}
 use Rattle.command_words.proofs.Counted.{programs_grow}
 use Rattle.command_words.proofs.Ends.{ends_by_reads, programs_end, tells}
 use Rattle.command_words.proofs.Performed.{behind_reads, performs_so, wants}

@@ -60,7 +60,7 @@ returns c job contents programs table choice slots stream valid are of table_val
       named = c.slots_name_the_table.ensures table choice slots table_valid fits list;
     })
     c.one_list_of_versions.ensures stream (map (λ (program : ProgramJob). program.number) job.programs) in_slots
-    (c.stream_has_slots.ensures job contents programs table choice slots stream valid are of table_valid fits list in_slots)
+    (c.stream_has_slots.ensures job programs table choice slots stream valid (c.programs_of_contents_are_read.ensures job contents programs are bytes) of table_valid fits list in_slots)
     (λ pid other. c.packets_are_counted.ensures (layout_of job programs) job.slot (pieces_of (stream_items programs of.versions choice)) slots.rows pid rows other)
     (c.stream_carries_its_times.ensures job contents programs table choice slots stream valid are of table_valid fits list in_slots bytes)
     (λ at own row stands found.

@@ -10,7 +10,7 @@ use Rattle.branch_plan.specs.declared.known.Known.{Known}
 use Rattle.branch_plan.specs.Private.Branching.{AreChildren}
 use Rattle.branch_plan.specs.Private.Known.{IsKnown}
 use Rattle.branch_plan.specs.Private.Valued.{AreKept, AreValuedBelow}
-use Rattle.branch_plan.proofs.Reaching.{few_own, reached_child}
+use Rattle.branch_plan.proofs.Reaching.{reached_child}
 use Rattle.branch_plan.proofs.Stepping.{child_step}
 use Rattle.branch_plan.proofs.Valued.{one_more_value, values_own}
 use Rattle.branch_plan.proofs.children.children_of.Goals as goal
@@ -48,7 +48,7 @@ with_child-requires-clause-fixed c =
 
 pub with_child-requires-clause-few_windows : goal.with_child-requires-clause-few_windows
 with_child-requires-clause-few_windows c =
-    few_own c.args.asked.nodes c.args.windows.now.items c.in_ok-own.own.items c.is_cheap-relaxed.result c.is_cheap-relaxed.ensures c.in_ok-own.ensures.few c.requires.few_windows
+    c.in_ok-own.ensures.few c.args.asked.nodes c.requires.few_windows c.requires.relaxation
 
 pub with_child-requires-clause-floor : goal.with_child-requires-clause-floor
 with_child-requires-clause-floor c =
@@ -60,7 +60,7 @@ with_child-requires-clause-floor c =
     let now : c.with_version-fixed.result ≡ fix place.unit k place.fixed = c.with_version-fixed.ensures ∙ c.loop-k.invariant.fixed k in
     let fixes : FixesVersions table c.with_version-fixed.result =
     subst (λ (f : List (Option ℕ)). FixesVersions table f) (sym now) (fixes_one table place.fixed place.unit k c.requires.fixed low) in
-    reached_child table c.args.asked.nodes place.fixed c.with_version-fixed.result place.unit k c.args.windows.now.items c.in_ok-own.own.items c.args.buffers.now c.args.asked.floor
+    reached_child table place.fixed c.with_version-fixed.result place.unit k c.args.windows.now.items c.in_ok-own.own.items c.args.buffers.now c.args.asked.floor
     c.requires.free low now fixes c.in_ok-own.ensures.value c.requires.floor
 
 pub with_child-requires-clause-values : goal.with_child-requires-clause-values
@@ -70,8 +70,8 @@ with_child-requires-clause-values c =
     let size = all_zip_size NamesVersion (units_of table) place.fixed c.requires.fixed in
     let now : c.with_version-fixed.result ≡ fix place.unit c.loop-k.k place.fixed = c.with_version-fixed.ensures ∙ c.loop-k.invariant.fixed c.loop-k.k in
     let more = c.values_with-more.ensures place.fixed c.requires.free.1 size c.requires.values in
-    values_own table c.with_version-fixed.result c.args.windows.now.items c.in_ok-own.own.items c.args.buffers.now c.values_with-more.result c.values_for-own_values.result c.is_cheap-relaxed.result
-    c.in_ok-own.ensures.few c.values_for-own_values.ensures.seen c.values_for-own_values.ensures.time c.values_for-own_values.ensures.own
+    values_own table c.with_version-fixed.result c.args.windows.now.items c.in_ok-own.own.items c.args.buffers.now c.values_with-more.result c.values_for-own_values.result c.is_relaxed-relaxed.result
+    c.in_ok-own.ensures.same c.values_for-own_values.ensures.seen c.values_for-own_values.ensures.time c.values_for-own_values.ensures.own
     (subst (λ (f : List (Option ℕ)). AreKept table f c.args.windows.now.items c.args.buffers.now c.values_with-more.result) (sym now) more)
 
 pub values_with-more-requires-clause-version : goal.values_with-more-requires-clause-version

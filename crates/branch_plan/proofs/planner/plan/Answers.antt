@@ -14,7 +14,7 @@ use Rattle.branch_plan.specs.Private.Changes.{GainsOver}
 use Rattle.branch_plan.specs.Private.Root.{BeatEachPair}
 use Rattle.branch_plan.specs.declared.found.Found.{Found}
 use Rattle.branch_plan.specs.declared.known.Known.{Known}
-use Rattle.branch_plan.proofs.Certs.{IsCertTree, branches_in, cert_tree, few_windows_in, pairs_in, tried_in, writable}
+use Rattle.branch_plan.proofs.Certs.{IsCertTree, as_many_chosen, branches_in, cert_tree, pairs_in, tried_in, writable}
 use Rattle.branch_plan.proofs.Debts.{pays_unspent}
 use Rattle.branch_plan.proofs.Enough.{always_optimal}
 use Rattle.branch_plan.proofs.Roots.{faultless, pair_bounds, tried_bounds}
@@ -87,17 +87,6 @@ returns-clause-few_nodes c =
     let cert = cert_of ended.bound known.distortion known.choice c.in_ok-tree.tree in
     tree.few
 
-pub returns-clause-few_windows : goal.returns-clause-few_windows
-returns-clause-few_windows c =
-    let table = c.args.table.now in
-    let ended = c.in_ok-ended.ended in
-    let is = c.in_ok-ended.ensures.ends in
-    let known = c.after_owed-known.result in
-    let tree : IsCertTree table c.args.nodes ended.found c.in_ok-tree.tree ended.bound ended.known.distortion =
-    cert_tree table c.args.nodes ended c.in_ok-tree.tree is (c.in_ok-tree.ensures is.ids is.order is.once) in
-    let cert = cert_of ended.bound known.distortion known.choice c.in_ok-tree.tree in
-    few_windows_in table c.args.nodes ended.found c.in_ok-tree.tree ended.bound ended.known.distortion tree
-
 pub returns-clause-branches : goal.returns-clause-branches
 returns-clause-branches c =
     let table = c.args.table.now in
@@ -124,7 +113,7 @@ returns-clause-spent c =
     let differs = c.ended_by-search.ensures.budget budget in
     let less : ended.bound < ended.known.distortion = strictly ended.bound known.distortion ended.known.distortion (omega (arith, under, kept.distortion)) differs
     (omega (arith, c.after_owed-known.ensures.kept, c.with_found-owing.ensures.least)) in
-    tree.spent less cert refl refl
+    tree.spent less cert refl refl (as_many_chosen table known.choice kept.fits)
 
 pub returns-clause-enough : goal.returns-clause-enough
 returns-clause-enough c =

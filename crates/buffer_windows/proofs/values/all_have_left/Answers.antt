@@ -5,6 +5,7 @@ use Rattle.dual_bounds.proofs.LeastCosts.{names_length}
 use Rattle.buffer_windows.specs.Private.Prices.{all_have_left, owned}
 use Rattle.buffer_windows.specs.Values.{versions_left}
 use Rattle.buffer_windows.proofs.OwnedCosts.{left_more, left_none}
+use Rattle.buffer_windows.proofs.Weights.{own}
 use Rattle.buffer_windows.proofs.values.all_have_left.Goals as goal
 
 pub bounds-fixed-i : goal.bounds-fixed-i
@@ -14,7 +15,8 @@ pub returns-then-not-has_left : goal.returns-then-not-has_left
 returns-then-not-has_left c =
     let within : c.loop-i.i < length c.args.fixed.now = omega (arith, names_length c.args.units.now c.args.fixed.now c.requires) in
     λ program.
-    let unit_is = ap (λ (unit : CodedUnit). nat_lt 0 (length (versions_left (record { program = program; vbv = c.args.vbv; unit = unit }) (get_or c.args.fixed.now c.loop-i.i None)))) c.index-units-i.is in
+    let entry = get_or c.args.fixed.now c.loop-i.i None in
+    let unit_is = ap (λ (unit : CodedUnit). nat_lt 0 (length (versions_left (own program c.args.vbv unit) entry))) c.index-units-i.is in
     let no_is = sym unit_is ∙ sym (c.has_left.ensures program) ∙ c.if-not-has_left.true in
     sym (sym (c.loop-i.invariant program) ∙ left_more program c.args.vbv c.args.units.now c.args.fixed.now c.loop-i.i c.index-units-i.result None c.loop-i-test.true within ∙ rw no_is refl)
 
@@ -22,7 +24,8 @@ pub loop-i-preserved : goal.loop-i-preserved
 loop-i-preserved c =
     let within : c.loop-i.i < length c.args.fixed.now = omega (arith, names_length c.args.units.now c.args.fixed.now c.requires) in
     λ program.
-    let unit_is = ap (λ (unit : CodedUnit). nat_lt 0 (length (versions_left (record { program = program; vbv = c.args.vbv; unit = unit }) (get_or c.args.fixed.now c.loop-i.i None)))) c.index-units-i.is in
+    let entry = get_or c.args.fixed.now c.loop-i.i None in
+    let unit_is = ap (λ (unit : CodedUnit). nat_lt 0 (length (versions_left (own program c.args.vbv unit) entry))) c.index-units-i.is in
     let yes_is = sym unit_is ∙ sym (c.has_left.ensures program) ∙ c.if-not-has_left.false in
     sym (left_more program c.args.vbv c.args.units.now c.args.fixed.now c.loop-i.i c.index-units-i.result None c.loop-i-test.true within ∙ rw yes_is refl) ∙ c.loop-i.invariant program
 

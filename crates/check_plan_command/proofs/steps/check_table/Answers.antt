@@ -3,7 +3,7 @@ use Rattle.bound_certificate.specs.declared.limits.TheConstants.{CERT_BYTES_MOST
 use Rattle.shelf_io.specs.Files.{Files}
 use Rattle.shelf_io.proofs.Counted.{never_failed}
 use Rattle.command_words.specs.Ended.{answer_of}
-use Rattle.command_words.specs.Outside.{shelf_facts}
+use Rattle.shelf_io.specs.Facts.{shelf_facts}
 use Rattle.command_words.proofs.Counted.{read_grows}
 use Rattle.command_words.proofs.Ends.{ends_by_read, failed_isnt_missing, missing_isnt_failed}
 use Rattle.command_words.proofs.Performed.{absent, unread, wants_bytes}

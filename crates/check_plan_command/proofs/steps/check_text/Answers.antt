@@ -1,5 +1,5 @@
 use Rattle.version_table.specs.Text.{Holds}
-use Rattle.command_words.specs.Outside.{shelf_facts}
+use Rattle.shelf_io.specs.Facts.{shelf_facts}
 use Rattle.plan_command.proofs.Held.{read_whole}
 use Rattle.check_plan_command.proofs.Judged.{refused_ends}
 use Rattle.check_plan_command.proofs.steps.check_text.Goals as goal

@@ -1,10 +1,10 @@
-use Rattle.job_stream.proofs.ReadPrograms.{AreReady, programs-ready}
+use Rattle.job_stream.proofs.ReadPrograms.{AreReady, read-ready}
 use Rattle.clean_laws.proofs.Stream.{stream-clean}
 use Rattle.clean_laws.proofs.laws.stream_is_clean.Goals as goal
 
 pub returns : goal.returns
-returns c job contents programs table choice slots stream valid are of table-valid fits list in_slots =
-    let ready : AreReady job.programs programs = programs-ready c.programs_can_be_sent.ensures.taken_out job programs (contents, are) in
+returns c job programs table choice slots stream valid read of table-valid fits list in_slots =
+    let ready : AreReady job.programs programs = read-ready c.programs_can_be_sent.ensures.taken_out job programs read in
     stream-clean job programs table choice slots of
     (record {
       few = valid.few_programs;
@@ -24,4 +24,4 @@ returns c job contents programs table choice slots stream valid are of table-val
       };
       named = c.slots_name_the_table.ensures table choice slots table-valid fits list;
     })
-    c.one_list_of_versions.ensures stream in_slots (c.stream_has_slots.ensures job contents programs table choice slots stream valid are of table-valid fits list in_slots)
+    c.one_list_of_versions.ensures stream in_slots (c.stream_has_slots.ensures job programs table choice slots stream valid read of table-valid fits list in_slots)

@@ -1,6 +1,6 @@
 use Rattle.std.proofs.Common.{◌-◌, sym, ◌∙◌, arith}
 use Rattle.list_types.proofs.Search.{find_range}
-use Rattle.es_units.proofs.Places.{none_in_range}
+use Rattle.list_types.proofs.Search.{find_none}
 use Rattle.es_units.specs.Pictures.{begins_picture}
 use Rattle.es_units.proofs.picture_places.find_picture.Goals as goal
 
@@ -10,4 +10,4 @@ returns-then-begins_picture c =
     (sym c.begins_picture.ensures ∙ c.if-begins_picture.true) (λ at b u. c.loop-at.invariant at b u))
 
 pub returns : goal.returns
-returns c = sym (none_in_range (begins_picture c.args.es.now) (c.args.end - c.args.from) c.args.from (λ at b u. c.loop-at.invariant at b (omega arith)))
+returns c = sym (find_none (begins_picture c.args.es.now) (c.args.end - c.args.from) c.args.from (λ at b u. c.loop-at.invariant at b (omega arith)))

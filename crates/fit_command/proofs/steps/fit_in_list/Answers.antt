@@ -3,7 +3,7 @@ use Rattle.job_files.specs.JobFile.{HoldsJob}
 use Rattle.shelf_io.specs.Files.{Files}
 use Rattle.shelf_io.proofs.Counted.{never_failed}
 use Rattle.command_words.specs.Ended.{answer_of}
-use Rattle.command_words.specs.Outside.{shelf_facts}
+use Rattle.shelf_io.specs.Facts.{shelf_facts}
 use Rattle.command_words.proofs.Ends.{failed_isnt_missing, missing_isnt_failed}
 use Rattle.command_words.proofs.Performed.{absent, behind_read, unread, wants_bytes}
 use Rattle.command_words.proofs.Texts.{found_text}

@@ -1,5 +1,5 @@
 use Rattle.std.proofs.Common.{refl, subst, sym, List, ℕ}
-use Rattle.command_words.specs.Outside.{shelf_facts}
+use Rattle.shelf_io.specs.Facts.{shelf_facts}
 use Rattle.command_words.proofs.Performed.{wants_uncalled}
 use Rattle.fit_command.specs.FitCommand.{HoldsAsked, fit_task_of}
 use Rattle.fit_command.specs.Private.ListFaults.{IsListFaultOf}

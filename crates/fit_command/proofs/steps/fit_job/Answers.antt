@@ -2,7 +2,7 @@ use Rattle.std.proofs.Common.{subst, sym, Option}
 use Rattle.shelf_io.specs.Files.{Files}
 use Rattle.job_files.specs.JobFile.{HoldsJob}
 use Rattle.command_words.specs.Ended.{answer_of}
-use Rattle.command_words.specs.Outside.{shelf_facts}
+use Rattle.shelf_io.specs.Facts.{shelf_facts}
 use Rattle.command_words.proofs.Performed.{behind_reads}
 use Rattle.fit_command.specs.FitCommand.{files_of_fit, fit_task_of}
 use Rattle.fit_command.proofs.Asked.{asks_job}

@@ -1,7 +1,7 @@
 use Rattle.std.proofs.Common.{◌∙◌, ℕ, List, Err, ap, refl, sym, subst}
 use Rattle.program_maker.specs.Program.{IsGeneratedProgram}
 use Rattle.shelf_io.proofs.Counted.{never_failed}
-use Rattle.command_words.specs.Outside.{shelf_facts}
+use Rattle.shelf_io.specs.Facts.{shelf_facts}
 use Rattle.command_words.proofs.Performed.{unwritten, wants_within, written}
 use Rattle.gen_command.specs.GenCommand.{gen_task_of}
 use Rattle.gen_command.specs.Report.{gen_report}

@@ -6,27 +6,27 @@ use Rattle.mux_writer.specs.declared.layout.Layout.{Layout}
 use Rattle.mux_writer.specs.Output.{IsOfLayout}
 use Rattle.version_source.specs.Pieces.{HasPiece, pieces_of}
 use Rattle.job_stream.proofs.NamedVersions.{choice-names}
-use Rattle.job_stream.proofs.ReadPrograms.{programs-ready}
+use Rattle.job_stream.proofs.ReadPrograms.{read-ready}
 use Rattle.job_stream.proofs.RowLemmas.{one-row-each, rows-there}
 use Rattle.job_stream.proofs.WriteLemmas.{failed-last, has-all, of-stream, sink-causes, some-stream, told-of}
 use Rattle.job_stream.proofs.write.write_job_stream.Goals as goal
 
 pub layout_of-layout-requires-clause-as_many : goal.layout_of-layout-requires-clause-as_many
-layout_of-layout-requires-clause-as_many g c = (programs-ready c.programs_can_be_sent.ensures.taken_out c.args.job.now c.args.programs.now c.requires.programs).as_many
+layout_of-layout-requires-clause-as_many g c = (read-ready c.programs_can_be_sent.ensures.taken_out c.args.job.now c.args.programs.now c.requires.programs).as_many
 
 pub layout_of-layout-requires-clause-few : goal.layout_of-layout-requires-clause-few
 layout_of-layout-requires-clause-few g c =
-    omega (arith, c.requires.job.few_programs, (programs-ready c.programs_can_be_sent.ensures.taken_out c.args.job.now c.args.programs.now c.requires.programs).as_many)
+    omega (arith, c.requires.job.few_programs, (read-ready c.programs_can_be_sent.ensures.taken_out c.args.job.now c.args.programs.now c.requires.programs).as_many)
 
 pub layout_of-layout-requires-clause-out : goal.layout_of-layout-requires-clause-out
-layout_of-layout-requires-clause-out g c = (programs-ready c.programs_can_be_sent.ensures.taken_out c.args.job.now c.args.programs.now c.requires.programs).out
+layout_of-layout-requires-clause-out g c = (read-ready c.programs_can_be_sent.ensures.taken_out c.args.job.now c.args.programs.now c.requires.programs).out
 
 pub new-requires-clause-as_many : goal.new-requires-clause-as_many
 new-requires-clause-as_many g c =
-    ap length c.as_slice.ensures ∙ (programs-ready c.programs_can_be_sent.ensures.taken_out c.args.job.now c.args.programs.now c.requires.programs).as_many
+    ap length c.as_slice.ensures ∙ (read-ready c.programs_can_be_sent.ensures.taken_out c.args.job.now c.args.programs.now c.requires.programs).as_many
 
 pub new-requires-clause-sendable : goal.new-requires-clause-sendable
-new-requires-clause-sendable g c = (programs-ready c.programs_can_be_sent.ensures.taken_out c.args.job.now c.args.programs.now c.requires.programs).sendable
+new-requires-clause-sendable g c = (read-ready c.programs_can_be_sent.ensures.taken_out c.args.job.now c.args.programs.now c.requires.programs).sendable
 
 pub new-requires-clause-names : goal.new-requires-clause-names
 new-requires-clause-names g c =
@@ -40,7 +40,7 @@ pub write_stream-requires-clause-rows : goal.write_stream-requires-clause-rows
 write_stream-requires-clause-rows g c =
     subst (λ (layout : Layout). All (IsOfLayout layout (HasPiece c.in-Ok.pieces)) c.args.slots.now.rows) (sym c.layout_of-layout.ensures.value)
     (rows-there c.args.job.now c.args.programs.now c.args.table.now c.args.choice.now c.args.slots.now (HasPiece c.in-Ok.pieces) c.requires.table c.requires.fits
-    (programs-ready c.programs_can_be_sent.ensures.taken_out c.args.job.now c.args.programs.now c.requires.programs)
+    (read-ready c.programs_can_be_sent.ensures.taken_out c.args.job.now c.args.programs.now c.requires.programs)
     (has-all c.args.programs.now c.args.job.now.programs c.as_slice.result.now c.args.choice.now c.as_slice-2.result.now (HasPiece c.in-Ok.pieces) c.as_slice.ensures c.as_slice-2.ensures
     c.in-Ok.ensures.has c.requires.table.versions c.requires.table.are_versions)
     (c.slots_name_the_table.ensures c.args.table.now c.args.choice.now c.args.slots.now c.requires.valid c.requires.fits c.requires.slots))

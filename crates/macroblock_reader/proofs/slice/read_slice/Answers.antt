@@ -5,5 +5,5 @@ use Rattle.macroblock_reader.proofs.slice.read_slice.Goals as goal
 
 pub returns-clause-exact : goal.returns-clause-exact
 returns-clause-exact g c = λ value rest comes.
-    next-exact (slice c.args.seq.now c.args.coding.now c.args.row) (λ v. v) c.args.from.now c.read_whole.new.from (exact-slice c.args.seq.now c.args.coding.now c.args.row) value rest comes
+    next-exact (slice c.args.picture.seq.now c.args.picture.coding.now c.args.row) (λ v. v) c.args.from.now c.read_whole.new.from (exact-slice c.args.picture.seq.now c.args.picture.coding.now c.args.row) value rest comes
     c.read_whole.result c.read_whole.ensures.ok c.read_whole.ensures.refused

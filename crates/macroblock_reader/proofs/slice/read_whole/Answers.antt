@@ -12,8 +12,8 @@ use Rattle.macroblock_reader.proofs.slice.read_whole.Goals as goal
 
 pub returns-in_err-code : goal.returns-in_err-code
 returns-in_err-code g c =
-    let seq = c.args.seq.now in
-    let coding = c.args.coding.now in
+    let seq = c.args.picture.seq.now in
+    let coding = c.args.picture.coding.now in
     let row = c.args.row in
     let keeps : KeepsSource c.args.from.now c.args.from.now = search rules in
     let p = err_from_is_err_and c.from_residual.result c.from_residual.ensures.1 in
@@ -22,8 +22,8 @@ returns-in_err-code g c =
 pub returns-in_err-info : goal.returns-in_err-info
 returns-in_err-info g c =
     let on = g.met.S.Source.keeps_on in
-    let seq = c.args.seq.now in
-    let coding = c.args.coding.now in
+    let seq = c.args.picture.seq.now in
+    let coding = c.args.picture.coding.now in
     let row = c.args.row in
     let keeps : KeepsSource c.args.from.now c.args.from.now = search rules in
     let p = err_from_is_err_and c.from_residual-in_err-info.result c.from_residual-in_err-info.ensures.1 in
@@ -33,8 +33,8 @@ returns-in_err-info g c =
 pub returns-in_err-macroblocks : goal.returns-in_err-macroblocks
 returns-in_err-macroblocks g c =
     let on = g.met.S.Source.keeps_on in
-    let seq = c.args.seq.now in
-    let coding = c.args.coding.now in
+    let seq = c.args.picture.seq.now in
+    let coding = c.args.picture.coding.now in
     let row = c.args.row in
     let keeps : KeepsSource c.args.from.now c.args.from.now = search rules in
     let p = err_from_is_err_and c.from_residual-in_err-macroblocks.result c.from_residual-in_err-macroblocks.ensures.1 in
@@ -45,8 +45,8 @@ returns-in_err-macroblocks g c =
 pub returns : goal.returns
 returns g c =
     let on = g.met.S.Source.keeps_on in
-    let seq = c.args.seq.now in
-    let coding = c.args.coding.now in
+    let seq = c.args.picture.seq.now in
+    let coding = c.args.picture.coding.now in
     let row = c.args.row in
     let keeps : KeepsSource c.args.from.now c.args.from.now = search rules in
     let coded = course-on on quantiser_scale_code (slice_1 seq coding row) local-scale_code (slice-start seq coding row c.args.from.now keeps) c.in_ok-code.ensures in

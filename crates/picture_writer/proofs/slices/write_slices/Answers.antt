@@ -19,13 +19,13 @@ loop-slice-init g c = record {
 pub write_whole_slice-requires-clause-spelled : goal.write_whole_slice-requires-clause-spelled
 write_whole_slice-requires-clause-spelled g c =
     let within : c.loop-slice.slice-index < length c.args.slices.now = omega (arith, c.loop-slice-test.true) in
-    let Can = CanBeWritten c.args.seq.now c.args.coding.now in
+    let Can = CanBeWritten c.args.picture.seq.now c.args.picture.coding.now in
     subst Can (sym c.slice-item.is) (this_one Can c.args.slices.now c.loop-slice.slice-index c.slice-item.result within c.loop-slice.invariant.spelled)
 
 pub returns-in_err-write_whole_slice-clause-writes : goal.returns-in_err-write_whole_slice-clause-writes
 returns-in_err-write_whole_slice-clause-writes g c =
     let within : c.loop-slice.slice-index < length c.args.slices.now = omega (arith, c.loop-slice-test.true) in
-    let written = written_whole_slice c.args.coding.now in
+    let written = written_whole_slice c.args.picture.coding.now in
     writes_as
     (writes_exit c.from_residual.result (flat_map written (drop (c.loop-slice.slice-index + 1) c.args.slices.now)) c.from_residual.ensures.1
     (writes_then g.met.K.Sink.keeps_on c.loop-slice.invariant.put (writes_as c.in_err-write_whole_slice.ensures.writes (ap written c.slice-item.is))))
@@ -34,8 +34,8 @@ returns-in_err-write_whole_slice-clause-writes g c =
 pub loop-slice-preserved : goal.loop-slice-preserved
 loop-slice-preserved g c =
     let within : c.loop-slice.slice-index < length c.args.slices.now = omega (arith, c.loop-slice-test.true) in
-    let written = written_whole_slice c.args.coding.now in
-    let Can = CanBeWritten c.args.seq.now c.args.coding.now in
+    let written = written_whole_slice c.args.picture.coding.now in
+    let Can = CanBeWritten c.args.picture.seq.now c.args.picture.coding.now in
     let put = writes_then g.met.K.Sink.keeps_on c.loop-slice.invariant.put (writes_as c.in_ok-write_whole_slice.ensures.writes (ap written c.slice-item.is)) in
     record {
       done = _;
@@ -47,7 +47,7 @@ loop-slice-preserved g c =
 
 pub returns-clause-writes : goal.returns-clause-writes
 returns-clause-writes g c =
-    let written = written_whole_slice c.args.coding.now in
+    let written = written_whole_slice c.args.picture.coding.now in
     writes_as c.loop-slice.invariant.put
     (none_more written c.args.slices.now c.loop-slice.slice-index c.loop-slice.invariant.done (flat_map written c.args.slices.now) c.loop-slice.invariant.rest
     (omega (arith, c.loop-slice-test.false)))

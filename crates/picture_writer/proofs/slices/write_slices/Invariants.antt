@@ -9,7 +9,7 @@ abbrev pub invariant-loop-slice : goal.invariant-loop-slice
 invariant-loop-slice g l = record {
   done : List ℕ;
   put : Writes g.K.Sink.written g.K.Sink.faults g.K.Sink.keeps l.fn.to l.to (Ok (tt {0})) done;
-  rest : done ++ flat_map (written_whole_slice l.fn.coding) (drop l.slice-index l.slices) ≡ flat_map (written_whole_slice l.fn.coding) l.slices;
+  rest : done ++ flat_map (written_whole_slice l.fn.picture.coding.now) (drop l.slice-index l.slices) ≡ flat_map (written_whole_slice l.fn.picture.coding.now) l.slices;
   whole : odd_bits l.to ≡ 0;
-  spelled : AllByRecursion (CanBeWritten l.fn.seq l.fn.coding) (drop l.slice-index l.slices);
+  spelled : AllByRecursion (CanBeWritten l.fn.picture.seq.now l.fn.picture.coding.now) (drop l.slice-index l.slices);
 }

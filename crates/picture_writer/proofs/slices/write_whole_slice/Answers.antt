@@ -14,19 +14,19 @@ closing coding s = replicate ((8 - length (start_code_bits (s.row + 1) ++ writte
 
 pub returns-in_err-write_start_code-clause-writes : goal.returns-in_err-write_start_code-clause-writes
 returns-in_err-write_start_code-clause-writes g c =
-    let coding = c.args.coding.now in
+    let coding = c.args.picture.coding.now in
     let s = c.args.slice.now in
     writes_beyond c.from_residual.result (closing coding s) c.from_residual.ensures.0
     (writes_exit c.from_residual.result (written_slice coding s) c.from_residual.ensures.1 c.in_err-write_start_code.ensures.writes)
 
 pub returns-in_err-write_slice-clause-writes : goal.returns-in_err-write_slice-clause-writes
 returns-in_err-write_slice-clause-writes g c =
-    writes_exit c.from_residual-in_err-write_slice.result (closing c.args.coding.now c.args.slice.now) c.from_residual-in_err-write_slice.ensures.1
+    writes_exit c.from_residual-in_err-write_slice.result (closing c.args.picture.coding.now c.args.slice.now) c.from_residual-in_err-write_slice.ensures.1
     (writes_then g.met.K.Sink.keeps_on c.in_ok-write_start_code.ensures.writes c.in_err-write_slice.ensures.writes)
 
 pub returns-clause-writes : goal.returns-clause-writes
 returns-clause-writes g c =
-    let coding = c.args.coding.now in
+    let coding = c.args.picture.coding.now in
     let s = c.args.slice.now in
     let both = writes_then g.met.K.Sink.keeps_on c.in_ok-write_start_code.ensures.writes c.in_ok-write_slice.ensures.writes in
     let odd : odd_bits c.write_slice.new.to ≡ length (start_code_bits (s.row + 1) ++ written_slice coding s) % 8 = (let all = gets_odd both.ok in omega (arith, all, c.requires.whole)) in

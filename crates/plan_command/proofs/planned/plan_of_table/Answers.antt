@@ -24,7 +24,6 @@ returns-in-Ok-clause-plan c =
       faultless = is.faultless;
       bound = is.bound;
       few_nodes = is.few_nodes;
-      few_windows = is.few_windows;
       branches = is.branches;
       spent = λ apart. is.spent (budget_else c.in-Ok.planned.search (λ optimal. apart (is.optimal.0 optimal)));
       enough = λ nodes. is.optimal.0 (is.enough nodes);

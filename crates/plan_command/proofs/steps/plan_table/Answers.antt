@@ -1,5 +1,5 @@
 use Rattle.std.proofs.Common.{inl, refl}
-use Rattle.command_words.specs.Outside.{shelf_facts}
+use Rattle.shelf_io.specs.Facts.{shelf_facts}
 use Rattle.command_words.proofs.Performed.{wants_uncalled}
 use Rattle.plan_command.specs.PlanCommand.{plan_task_of}
 use Rattle.plan_command.proofs.Held.{missed_ends}

@@ -1,7 +1,7 @@
 use Rattle.std.proofs.Common.{◌≡◌, ◌∙◌, Err, refl, ap}
 use Rattle.bound_certificate.specs.Spelling.{cert_spelling}
 use Rattle.shelf_io.proofs.Counted.{never_failed}
-use Rattle.command_words.specs.Outside.{shelf_facts}
+use Rattle.shelf_io.specs.Facts.{shelf_facts}
 use Rattle.command_words.proofs.Performed.{unwritten, wants_within, written}
 use Rattle.plan_command.specs.PlanCommand.{plan_task_of}
 use Rattle.plan_command.specs.Report.{plan_report}

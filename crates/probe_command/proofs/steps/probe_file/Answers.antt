@@ -1,5 +1,6 @@
 use Rattle.std.proofs.Common.{[], Option, None, refl, sym, subst, inl}
 use Rattle.job_programs.specs.declared.source_fault.ProgramsFault.{ProgramsFault}
+use Rattle.job_programs.specs.Passed.{IsPassedProbed}
 use Rattle.job_programs.specs.Told.{HasProbeCause, IsProbeRefusedOn}
 use Rattle.job_report.specs.declared.limits.TheConstants.{PROBE_SLOT, START_DEFAULT}
 use Rattle.job_report.specs.declared.report.Report.TheVariants as reports
@@ -8,22 +9,23 @@ use Rattle.run_report.specs.Report.{source_report}
 use Rattle.shelf_io.specs.Files.{Files, Lacks}
 use Rattle.command_words.specs.declared.status.Status.TheVariants.{SourceRefused, ReadFault, Missing}
 use Rattle.command_words.specs.Ended.{answer_of}
-use Rattle.command_words.specs.Outside.{shelf_facts}
+use Rattle.shelf_io.specs.Facts.{shelf_facts}
 use Rattle.command_words.proofs.Counted.{programs_grow}
 use Rattle.command_words.proofs.Ends.{ends_by_reads, programs_end, tells}
 use Rattle.command_words.proofs.Performed.{behind_reads, performs_so, wants}
-use Rattle.probe_command.specs.ProbeCommand.{HoldsProbed, probe_task_of}
+use Rattle.probe_command.specs.ProbeCommand.{probe_task_of}
 use Rattle.probe_command.proofs.ProbeSteps.{asks_file}
 use Rattle.probe_command.proofs.steps.probe_file.Goals as goal
 
-pub write_probed-requires-clause-probed : goal.write_probed-requires-clause-probed
-write_probed-requires-clause-probed g c =
-    subst (λ (told : Option Files). HoldsProbed told c.args.words.now.file.now c.args.words.now.program c.in-Ok.read.program) (sym c.in-Ok.ensures.files) c.in-Ok.ensures.program
+pub write_probed-requires : goal.write_probed-requires
+write_probed-requires g c =
+    let words = c.args.words.now in
+    subst (λ (told : Option Files). IsPassedProbed told words.file.now PROBE_SLOT START_DEFAULT words.program [] c.in-Ok.read) (sym c.in-Ok.ensures.files) c.in-Ok.ensures.program
 
 pub returns-in-Ok : goal.returns-in-Ok
 returns-in-Ok g c =
     let facts = shelf_facts g.K.Shelf.files g.K.Shelf.counts g.K.Shelf.asked g.K.Shelf.since_fault in
-    behind_reads (probe_task_of c.args.words.now) (facts c.args.shelf.now) (facts c.read_one.new.shelf) (facts c.write_probed.new.shelf) (answer_of c.write_probed.result)
+    behind_reads (probe_task_of c.args.words.now) (facts c.args.shelf.now) (facts c.pass_one.new.shelf) (facts c.write_probed.new.shelf) (answer_of c.write_probed.result)
     c.in-Ok.ensures.files (λ no. no) (λ no. no) c.in-Ok.ensures.counts c.in-Ok.ensures.ends (asks_file _ _ _ _ _ _ c.in-Ok.ensures.asked) c.write_probed.ensures
 
 pub returns-in-Err-Refused : goal.returns-in-Err-Refused
@@ -31,7 +33,7 @@ returns-in-Err-Refused g c =
     let words = c.args.words.now in
     let facts = shelf_facts g.K.Shelf.files g.K.Shelf.counts g.K.Shelf.asked g.K.Shelf.since_fault in
     let old = facts c.args.shelf.now in
-    let new = facts c.read_one.new.shelf in
+    let new = facts c.pass_one.new.shelf in
     let is = c.in-Err-Refused.ensures in
     let fault = c.in-Err-Refused.fault in
     let refused : IsProbeRefusedOn old.files words.file.now PROBE_SLOT START_DEFAULT words.program [] fault =
@@ -50,7 +52,7 @@ returns-in-Err-Failed g c =
     let words = c.args.words.now in
     let facts = shelf_facts g.K.Shelf.files g.K.Shelf.counts g.K.Shelf.asked g.K.Shelf.since_fault in
     let old = facts c.args.shelf.now in
-    let new = facts c.read_one.new.shelf in
+    let new = facts c.pass_one.new.shelf in
     let is = c.in-Err-Failed.ensures in
     let file = words.file.now in
     let (first, rose, last) = subst (λ (f : ProgramsFault). HasProbeCause old.files words.file.now PROBE_SLOT START_DEFAULT words.program [] old.counts new.counts new.since_fault f)
@@ -67,7 +69,7 @@ returns-in-Err-Missing g c =
     let words = c.args.words.now in
     let facts = shelf_facts g.K.Shelf.files g.K.Shelf.counts g.K.Shelf.asked g.K.Shelf.since_fault in
     let old = facts c.args.shelf.now in
-    let new = facts c.read_one.new.shelf in
+    let new = facts c.pass_one.new.shelf in
     let is = c.in-Err-Missing.ensures in
     let file = words.file.now in
     let (first, lacks, rose, last) = subst (λ (f : ProgramsFault). HasProbeCause old.files words.file.now PROBE_SLOT START_DEFAULT words.program [] old.counts new.counts new.since_fault f)
@@ -84,7 +86,7 @@ returns-in-Err-OutOfMemory g c =
     let words = c.args.words.now in
     let facts = shelf_facts g.K.Shelf.files g.K.Shelf.counts g.K.Shelf.asked g.K.Shelf.since_fault in
     let old = facts c.args.shelf.now in
-    let new = facts c.read_one.new.shelf in
+    let new = facts c.pass_one.new.shelf in
     let is = c.in-Err-OutOfMemory.ensures in
     wants (probe_task_of words) old new is.files (λ held. inl refl)
     (ends_by_reads old new None is.counts.same_write_faults

@@ -1,29 +1,35 @@
-use Rattle.std.proofs.Common.{[], ℕ, List, refl, subst}
-use Rattle.bit_lists.specs.Fields.{AreBytes}
-use Rattle.job_report.specs.declared.job.Form.TheVariants.{Ts}
+use Rattle.std.proofs.Common.{List, refl, sym, subst}
 use Rattle.job_report.specs.declared.limits.TheConstants.{COARSER_DEFAULT, START_DEFAULT}
+use Rattle.program_reader.specs.declared.unit_sizes.UnitSizes.{UnitSizes}
+use Rattle.program_reader.specs.Sizes.{AreProgramSizes}
 use Rattle.probe_command.proofs.ProbedTable.{is_text_table}
 use Rattle.probe_command.proofs.steps.table_of_probed.Goals as goal
 
-pub row_of_sized_program-requires-clause-sendable : goal.row_of_sized_program-requires-clause-sendable
-row_of_sized_program-requires-clause-sendable c =
-    c.programs_can_be_sent.ensures.of_file Ts c.requires.probed.1 c.requires.probed.0 [] START_DEFAULT c.args.read.now.program c.requires.probed.2.is_program.holds
-
-pub row_of_sized_program-requires-clause-sizes : goal.row_of_sized_program-requires-clause-sizes
-row_of_sized_program-requires-clause-sizes c = (COARSER_DEFAULT, rw c.as_slice-2.ensures c.requires.sizes)
+pub row_of_passed_program-requires-clause-read : goal.row_of_passed_program-requires-clause-read
+row_of_passed_program-requires-clause-read c =
+    let (number, program, probed, off) = c.requires in (
+      START_DEFAULT,
+      program,
+      COARSER_DEFAULT,
+      probed.read_for.read,
+      off.read_off,
+      subst (λ (sizes : List UnitSizes). AreProgramSizes program COARSER_DEFAULT sizes) (sym c.as_slice.ensures) off.are_sizes,
+    )
 
 pub returns-clause-table : goal.returns-clause-table
-returns-clause-table c = record {
+returns-clause-table c = λ program off. record {
   slot = refl;
   nodes = refl;
   evaluations = refl;
   row = c.in_ok-row.row;
-  is_row = c.in_ok-row.ensures COARSER_DEFAULT (rw c.as_slice-2.ensures c.requires.sizes);
+  is_row = c.in_ok-row.ensures program COARSER_DEFAULT off.read_off
+      (subst (λ (sizes : List UnitSizes). AreProgramSizes program COARSER_DEFAULT sizes) (sym c.as_slice.ensures) off.are_sizes);
   alone = c.in_ok-programs.ensures;
 }
 
 pub returns-clause-text : goal.returns-clause-text
 returns-clause-text c =
-    is_text_table c.row_is_valid.ensures c.requires.probed.0 c.requires.probed.1 c.args.read.now.program c.in_ok-row.row c.in_ok-programs.programs c.requires.probed.2
-    (subst (λ (bytes : List ℕ). AreBytes bytes) c.as_slice.ensures c.see_bytes.ensures)
-    (c.in_ok-row.ensures COARSER_DEFAULT (rw c.as_slice-2.ensures c.requires.sizes)) c.in_ok-programs.ensures
+    let (number, program, probed, off) = c.requires in
+    is_text_table c.row_is_valid.ensures number program c.in_ok-row.row c.in_ok-programs.programs probed
+    (c.in_ok-row.ensures program COARSER_DEFAULT off.read_off (subst (λ (sizes : List UnitSizes). AreProgramSizes program COARSER_DEFAULT sizes) (sym c.as_slice.ensures) off.are_sizes))
+    c.in_ok-programs.ensures

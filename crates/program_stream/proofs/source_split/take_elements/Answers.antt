@@ -1,8 +1,8 @@
-use Rattle.std.proofs.Common.{◌≤◌, ℕ, List, [], ◌∷◌, ◌++◌, ◌∙◌, inl, length, ap, subst, arith}
+use Rattle.std.proofs.Common.{◌≡◌, ◌≤◌, ℕ, List, [], ◌∷◌, ◌++◌, ◌∙◌, inl, length, ap, subst, arith}
 use Rattle.ts_demux.specs.Pass.{HoldsOfFile, IsEarly}
 use Rattle.program_stream.specs.declared.passing_elements.Passed.{Passed}
 use Rattle.program_stream.specs.declared.split_fault.SplitFault.{SplitFault}
-use Rattle.program_stream.specs.PassingElements.{AreRefused, Goes}
+use Rattle.program_stream.specs.PassingElements.{AreRefused, Goes, taken_of}
 use Rattle.program_stream.specs.Private.Steps.{StandsBehind}
 use Rattle.program_stream.specs.Split.{HasElements, IsSplitRefused, element}
 use Rattle.program_stream.proofs.PassingSteps.{early_on, fewer_left, on_refused, whole_on}
@@ -42,8 +42,8 @@ pub returns-in-Ok-End-clause-cut : goal.returns-in-Ok-End-clause-cut
 returns-in-Ok-End-clause-cut g c =
     let was = c.loop-cut.invariant in
     let cut = c.in-Ok-End.cut in
-    whole_on (g.S.Source.left c.args.source.now) (g.S.Source.left c.next.new.source) (g.S.Source.most c.args.source.now) (g.S.Source.most c.next.new.source) [] (λ (file : List ℕ). HasElements file was.elements cut)
-    (λ (file : List ℕ). (14 ≤ length file) × StandsBehind file c.args.drop.now cut c.loop-cut.walk) (λ file is. (is.long, record { elements = was.elements; are = is.are; walked = was.walked }))
+    whole_on (g.S.Source.left c.args.source.now) (g.S.Source.left c.next.new.source) (g.S.Source.most c.args.source.now) (g.S.Source.most c.next.new.source) [] (λ (file : List ℕ). HasElements file was.elements cut × (length file ≡ taken_of c.next.new.self))
+    (λ (file : List ℕ). (14 ≤ length file) × StandsBehind file c.args.drop.now cut c.loop-cut.walk) (λ file is. (is.0.long, record { elements = was.elements; are = is.0.are; walked = was.walked }))
     (subst (λ (passed : Passed). Goes passed (g.S.Source.left c.args.source.now) (g.S.Source.left c.next.new.source) (g.S.Source.most c.args.source.now) (g.S.Source.most c.next.new.source) was.elements c.next.new.self)
     c.in-Ok-End.field-0-is (c.in-Ok-End.ensures.passed (g.S.Source.left c.args.source.now) (g.S.Source.most c.args.source.now) was.elements was.passed))
 

@@ -1,13 +1,22 @@
-use Rattle.std.proofs.Common.{arith}
-use Rattle.program_stream.proofs.Standing.{streams_refused}
+use Rattle.std.proofs.Common.{ℕ, List, Some, subst}
+use Rattle.ts_demux.specs.Pass.{HoldsOfFile}
+use Rattle.ts_demux.proofs.PassSteps.{told_file, told_whole}
+use Rattle.program_stream.specs.declared.split_fault.SplitFault.{SplitFault}
+use Rattle.program_stream.specs.Split.{IsSplit, IsSplitRefused}
+use Rattle.program_stream.proofs.PassingSteps.{is_refused}
 use Rattle.program_stream.proofs.split_file.split.Goals as goal
 
-pub walk_elements-requires : goal.walk_elements-requires
-walk_elements-requires c = c.new-walk.ensures c.args.drop.now
+pub returns-in-Ok : goal.returns-in-Ok
+returns-in-Ok c =
+    let answer = c.in-Ok.answer in
+    subst (λ (file : List ℕ). IsSplit file c.args.drop.now answer.0 answer.1) c.new.ensures
+    (told_whole c.new.result _ _ _ _ (λ (file : List ℕ). IsSplit file c.args.drop.now answer.0 answer.1) c.in-Ok.ensures.split)
 
-pub returns-in-Err-into_demuxed : goal.returns-in-Err-into_demuxed
-returns-in-Err-into_demuxed c =
-    let behind = c.in-Ok.ensures.cut in
-    streams_refused c.args.file.now c.args.drop.now behind.elements c.in-Ok.cut c.in-Err-into_demuxed.fault
-    (record { long = omega (arith, c.if-file-lt-PACK_HEADER_BYTES.false); are = behind.are })
-    (c.in-Err-into_demuxed.ensures c.args.drop.now behind.elements behind.walked)
+pub returns-in-Err-Refused : goal.returns-in-Err-Refused
+returns-in-Err-Refused c =
+    let fault = c.in-Err-Refused.fault in
+    subst (λ (file : List ℕ). IsSplitRefused file c.args.drop.now fault) c.new.ensures
+    (told_file c.new.result _ _ _ _ (λ (file : List ℕ). IsSplitRefused file c.args.drop.now fault)
+    (is_refused c.in-Err-Refused.field-0 fault
+    (λ (refusal : SplitFault). HoldsOfFile (Some c.new.result) _ _ _ _ (λ (file : List ℕ). IsSplitRefused file c.args.drop.now refusal))
+    c.in-Err-Refused.field-0-is c.in-Err-Refused.ensures.refused))

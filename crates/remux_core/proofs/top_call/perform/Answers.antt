@@ -4,7 +4,7 @@ use Rattle.job_report.specs.declared.report.Report.TheVariants as reports
 use Rattle.command_words.specs.declared.status.Status.TheVariants.{Usage}
 use Rattle.command_words.specs.declared.command.Parsed.{Parsed}
 use Rattle.command_words.specs.Command.{IsSaid}
-use Rattle.command_words.specs.Outside.{shelf_facts}
+use Rattle.shelf_io.specs.Facts.{shelf_facts}
 use Rattle.command_words.specs.Parsed.{command_of, plan_of, gen_of, run_of, check_of, probe_of, check_plan_of, impossible_of, fit_of, audit_of}
 use Rattle.command_words.specs.Task.{no_task}
 use Rattle.command_words.proofs.Performed.{performs_uncalled}

@@ -2,7 +2,7 @@ use Rattle.std.proofs.Common.{◌∙◌, List, ℕ, Some, None, map, refl, ap, s
 use Rattle.std.specs.String.{string_bytes}
 use Rattle.shelf_io.specs.Sink.{with_bytes, AddsPrefix}
 use Rattle.command_words.specs.declared.status.Status.TheVariants.{WriteFault, OutOfMemory}
-use Rattle.command_words.specs.Outside.{shelf_facts, sink_facts}
+use Rattle.shelf_io.specs.Facts.{shelf_facts, sink_facts}
 use Rattle.command_words.specs.Ended.{answer_of}
 use Rattle.remux_core.proofs.Answered.{as_called, outcome_of}
 use Rattle.remux_core.proofs.One.{Laws}

@@ -10,7 +10,7 @@ squared_differences-sum-requires-clause-second c = λ place. subst (λ (z : ℤ)
 
 pub loop-i-preserved : goal.loop-i-preserved
 loop-i-preserved c =
-    let f : ℕ → ℕ → ℤ = coefficient_of_macroblock c.args.a.seq.now c.args.a.coding.now c.args.a.code (Some c.args.a.macroblock.now) in
+    let f : ℕ → ℕ → ℤ = coefficient_of_macroblock c.args.a.picture.seq.now c.args.a.picture.coding.now c.args.a.code (Some c.args.a.macroblock.now) in
     let below : c.loop-i.i < 6 = c.loop-i-test.true in
     let is : c.squared_differences-sum.result ≡ block_difference f (λ i index. pos 0) c.loop-i.i =
     c.squared_differences-sum.ensures.value
@@ -23,5 +23,5 @@ loop-i-preserved c =
 
 pub returns-clause-value : goal.returns-clause-value
 returns-clause-value c =
-    let f : ℕ → ℕ → ℤ = coefficient_of_macroblock c.args.a.seq.now c.args.a.coding.now c.args.a.code (Some c.args.a.macroblock.now) in
+    let f : ℕ → ℕ → ℤ = coefficient_of_macroblock c.args.a.picture.seq.now c.args.a.picture.coding.now c.args.a.code (Some c.args.a.macroblock.now) in
     no_more_number (block_difference f (λ i index. pos 0)) c.loop-i.sum c.loop-i.i 6 _ c.loop-i-test.false c.loop-i.invariant.rest ∙ difference_of-blocks f (λ i index. pos 0)

@@ -7,7 +7,7 @@ use Rattle.requantiser.proofs.difference.difference_of_one.Given as goal
 -- the sum so far, and that of the other blocks, are the sum of all
 abbrev pub invariant-loop-i : goal.invariant-loop-i
 invariant-loop-i l = record {
-  rest : l.sum + sum_from (block_difference (coefficient_of_macroblock l.a.seq.now l.a.coding.now l.a.code (Some l.a.macroblock.now)) (λ i index. pos 0)) l.i (6 - l.i)
-      ≡ sum_from (block_difference (coefficient_of_macroblock l.a.seq.now l.a.coding.now l.a.code (Some l.a.macroblock.now)) (λ i index. pos 0)) 0 6;
+  rest : l.sum + sum_from (block_difference (coefficient_of_macroblock l.a.picture.seq.now l.a.picture.coding.now l.a.code (Some l.a.macroblock.now)) (λ i index. pos 0)) l.i (6 - l.i)
+      ≡ sum_from (block_difference (coefficient_of_macroblock l.a.picture.seq.now l.a.picture.coding.now l.a.code (Some l.a.macroblock.now)) (λ i index. pos 0)) 0 6;
   bound : l.sum ≤ l.i * 2 ^ 38;
 }

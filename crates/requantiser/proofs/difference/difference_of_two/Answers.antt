@@ -5,8 +5,8 @@ use Rattle.requantiser.proofs.difference.difference_of_two.Goals as goal
 
 pub loop-i-preserved : goal.loop-i-preserved
 loop-i-preserved c =
-    let f : ℕ → ℕ → ℤ = coefficient_of_macroblock c.args.a.seq.now c.args.a.coding.now c.args.a.code (Some c.args.a.macroblock.now) in
-    let g : ℕ → ℕ → ℤ = coefficient_of_macroblock c.args.b.seq.now c.args.b.coding.now c.args.b.code (Some c.args.b.macroblock.now) in
+    let f : ℕ → ℕ → ℤ = coefficient_of_macroblock c.args.a.picture.seq.now c.args.a.picture.coding.now c.args.a.code (Some c.args.a.macroblock.now) in
+    let g : ℕ → ℕ → ℤ = coefficient_of_macroblock c.args.b.picture.seq.now c.args.b.picture.coding.now c.args.b.code (Some c.args.b.macroblock.now) in
     let below : c.loop-i.i < 6 = c.loop-i-test.true in
     record {
       rest = one_more_number (block_difference f g) c.loop-i.sum c.loop-i.i 6 c.difference_in_block-sum.result _ below c.difference_in_block-sum.ensures.value c.loop-i.invariant.rest;
@@ -15,6 +15,6 @@ loop-i-preserved c =
 
 pub returns-clause-value : goal.returns-clause-value
 returns-clause-value c =
-    let f : ℕ → ℕ → ℤ = coefficient_of_macroblock c.args.a.seq.now c.args.a.coding.now c.args.a.code (Some c.args.a.macroblock.now) in
-    let g : ℕ → ℕ → ℤ = coefficient_of_macroblock c.args.b.seq.now c.args.b.coding.now c.args.b.code (Some c.args.b.macroblock.now) in
+    let f : ℕ → ℕ → ℤ = coefficient_of_macroblock c.args.a.picture.seq.now c.args.a.picture.coding.now c.args.a.code (Some c.args.a.macroblock.now) in
+    let g : ℕ → ℕ → ℤ = coefficient_of_macroblock c.args.b.picture.seq.now c.args.b.picture.coding.now c.args.b.code (Some c.args.b.macroblock.now) in
     no_more_number (block_difference f g) c.loop-i.sum c.loop-i.i 6 _ c.loop-i-test.false c.loop-i.invariant.rest ∙ difference_of-blocks f g

@@ -26,8 +26,13 @@ loop-k-preserved c =
     let to = c.with_scale-to.ensures in
     let was : to_z w16 (of_z w16 level) ≡ level = held_level level c.args.coefficient.small in
     let size : c.unsigned_abs-size.result ≡ unsigned_abs (coarser_level level weight from scale intra) =
-    c.unsigned_abs-size.ensures.value ∙ ap unsigned_abs (held ∙ change.ensures.level ∙ ap (λ (l : ℤ). coarser_level l weight c.with_scale-to.result.from c.with_scale-to.result.to c.with_scale-to.result.intra) was ∙ same_three (coarser_level level weight) to.from (to.to ∙ c.from.ensures) to.intra) in
-    let squared : change.result.squared ≡ level_change level weight from scale intra = change.ensures.squared ∙ ap (λ (l : ℤ). level_change l weight c.with_scale-to.result.from c.with_scale-to.result.to c.with_scale-to.result.intra) was ∙ same_three (level_change level weight) to.from (to.to ∙ c.from.ensures) to.intra in
+    c.unsigned_abs-size.ensures.value ∙ ap unsigned_abs (held ∙ change.ensures.level
+    ∙ ap (λ (l : ℤ). coarser_level l weight c.with_scale-to.result.from c.with_scale-to.result.to c.with_scale-to.result.intra) was
+    ∙ same_three (coarser_level level weight) to.from (to.to ∙ c.from.ensures) to.intra) in
+    let squared : change.result.squared ≡ level_change level weight from scale intra =
+    change.ensures.squared
+    ∙ ap (λ (l : ℤ). level_change l weight c.with_scale-to.result.from c.with_scale-to.result.to c.with_scale-to.result.intra) was
+    ∙ same_three (level_change level weight) to.from (to.to ∙ c.from.ensures) to.intra in
     let behind = c.living_behind-living.ensures in
     record {
       sizes = length-set c.loop-k.sizes k _ ∙ c.loop-k.invariant.sizes;

@@ -71,7 +71,8 @@ returns-clause-squared c =
     let kept : c.min-kept.result ≡ min (parts / (c.args.weight * c.args.rescaling.to)) (unsigned_abs c.args.level) =
     c.min-kept.ensures ∙ ap₂ min (c.quotient.ensures ∙ ap (λ n. parts / n) step) size in
     let more : 0 < c.min-kept.result =
-    kept_some parts (c.args.weight * c.args.rescaling.to) (unsigned_abs c.args.level) c.min-kept.result (some_product c.args.weight c.args.rescaling.to c.requires.weighted c.args.rescaling.to_range.0) (omega (arith, c.if-parts-step.false, step)) some kept in
+    kept_some parts (c.args.weight * c.args.rescaling.to) (unsigned_abs c.args.level) c.min-kept.result
+    (some_product c.args.weight c.args.rescaling.to c.requires.weighted c.args.rescaling.to_range.0) (omega (arith, c.if-parts-step.false, step)) some kept in
     let other : c.coefficient_size-other.result ≡ size_of c.min-kept.result c.args.weight c.args.rescaling.to (half_of c.args.rescaling.intra) (limit_of c.args.level) =
     size_by _ _ _ _ _ _ _ _ _ c.coefficient_size-other.ensures.value refl c.half-half.ensures.value limit in
     c.square-2.ensures.value ∙ ap (λ n. n * n) (c.abs_diff.ensures ∙ ap₂ abs_diff coefficient other)

@@ -7,5 +7,5 @@ use Rattle.requantiser.proofs.macroblock.coarsen_blocks.Given as goal
 abbrev pub invariant-loop-i : goal.invariant-loop-i
 invariant-loop-i l = record {
   six : length l.to ≡ 6;
-  each : (k : ℕ) → k < l.i → get_or l.to k no_block ≡ one_block l.fn.seq l.fn.coding l.fn.from.kind l.fn.codes.in_force l.fn.codes.mapped l.fn.from.blocks k;
+  each : (k : ℕ) → k < l.i → get_or l.to k no_block ≡ one_block l.fn.picture.seq.now l.fn.picture.coding.now l.fn.from.kind l.fn.codes.in_force l.fn.codes.mapped l.fn.from.blocks k;
 }

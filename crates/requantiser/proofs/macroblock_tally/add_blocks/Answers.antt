@@ -13,18 +13,18 @@ use Rattle.requantiser.proofs.macroblock_tally.add_blocks.Goals as goal
 
 pub loop-i-init : goal.loop-i-init
 loop-i-init c = record {
-  each = λ k below. none_tallied c.args.seq.now c.args.coding.now c.args.from.now.kind c.args.code c.args.from.now.blocks (tally_in c.args.targets.now c.args.counts.now k below) (c.requires.start k below);
+  each = λ k below. none_tallied c.args.picture.seq.now c.args.picture.coding.now c.args.from.now.kind c.args.code c.args.from.now.blocks (tally_in c.args.targets.now c.args.counts.now k below) (c.requires.start k below);
 }
 
 pub add_block_of-requires-clause-room : goal.add_block_of-requires-clause-room
 add_block_of-requires-clause-room c = λ k below.
-    room_for_block c.args.seq.now c.args.coding.now c.args.from.now.kind c.args.code c.args.from.now.blocks c.loop-i.i (tally_in c.args.targets.now c.args.counts.now k below)
+    room_for_block c.args.picture.seq.now c.args.picture.coding.now c.args.from.now.kind c.args.code c.args.from.now.blocks c.loop-i.i (tally_in c.args.targets.now c.args.counts.now k below)
     (tally_in c.args.targets.now c.loop-i.counts k below) c.block_way-way.result c.loop-i-test.true (ap (λ (w : BlockWay). w.intra) c.block_way-way.ensures) (c.loop-i.invariant.each k below)
 
 pub loop-i-preserved : goal.loop-i-preserved
 loop-i-preserved c =
-    let seq = c.args.seq.now in
-    let coding = c.args.coding.now in
+    let seq = c.args.picture.seq.now in
+    let coding = c.args.picture.coding.now in
     let blocks = c.args.from.now.blocks in
     let kind = c.args.from.now.kind in
     let block : Block = get_or blocks c.loop-i.i c.index-from-i.result in
@@ -43,5 +43,5 @@ loop-i-preserved c =
 pub returns : goal.returns
 returns c = λ k below.
     let all : c.loop-i.i ≡ 6 = omega (arith, c.loop-i-test.false, c.loop-i.auto.i-end) in
-    subst (λ (n : ℕ). AreBlocksTallied c.args.seq.now c.args.coding.now c.args.from.now.kind c.args.code c.args.from.now.blocks n (tally_in c.args.targets.now c.args.counts.now k below)
+    subst (λ (n : ℕ). AreBlocksTallied c.args.picture.seq.now c.args.picture.coding.now c.args.from.now.kind c.args.code c.args.from.now.blocks n (tally_in c.args.targets.now c.args.counts.now k below)
     (tally_in c.args.targets.now c.loop-i.counts k below)) all (c.loop-i.invariant.each k below)

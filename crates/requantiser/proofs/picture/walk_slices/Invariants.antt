@@ -5,4 +5,4 @@ use Rattle.requantiser.proofs.picture.walk_slices.Given as goal
 
 -- the slices so far
 abbrev pub invariant-loop-slice : goal.invariant-loop-slice
-invariant-loop-slice l = l.made ≡ map (coarsened_slice l.seq l.coding l.m) (take l.slice-index l.slices)
+invariant-loop-slice l = l.made ≡ map (coarsened_slice l.picture.seq.now l.picture.coding.now l.m) (take l.slice-index l.slices)

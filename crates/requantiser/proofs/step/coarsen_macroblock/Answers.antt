@@ -6,15 +6,15 @@ use Rattle.requantiser.proofs.StatesBehind.{state-behind}
 use Rattle.requantiser.proofs.step.coarsen_macroblock.Goals as goal
 
 pub step-coded-requires-clause-shape : goal.step-coded-requires-clause-shape
-step-coded-requires-clause-shape c = (walkable c.args.coding.now c.args.from.now c.requires.spelled).shape
+step-coded-requires-clause-shape c = (walkable c.args.picture.coding.now c.args.from.now c.requires.spelled).shape
 
 pub step-coded-requires-clause-measured : goal.step-coded-requires-clause-measured
-step-coded-requires-clause-measured c = (walkable c.args.coding.now c.args.from.now c.requires.spelled).measured
+step-coded-requires-clause-measured c = (walkable c.args.picture.coding.now c.args.from.now c.requires.spelled).measured
 
 pub returns-clause-at : goal.returns-clause-at
 returns-clause-at c =
-    let seq = c.args.seq.now in
-    let coding = c.args.coding.now in
+    let seq = c.args.picture.seq.now in
+    let coding = c.args.picture.coding.now in
     let state = c.args.state.now in
     let from = c.args.from.now in
     subst (IsCoarserAt seq coding state.m c.args.inner state.source_code state.version_code (Some from)) (sym c.step-coded.ensures.made)

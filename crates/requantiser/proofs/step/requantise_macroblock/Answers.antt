@@ -6,15 +6,15 @@ use Rattle.requantiser.proofs.StatesBehind.{state-behind}
 use Rattle.requantiser.proofs.step.requantise_macroblock.Goals as goal
 
 pub step-requires-clause-shape : goal.step-requires-clause-shape
-step-requires-clause-shape c = (walkable c.args.coding.now c.args.from.now c.requires.spelled).shape
+step-requires-clause-shape c = (walkable c.args.picture.coding.now c.args.from.now c.requires.spelled).shape
 
 pub step-requires-clause-measured : goal.step-requires-clause-measured
-step-requires-clause-measured c = (walkable c.args.coding.now c.args.from.now c.requires.spelled).measured
+step-requires-clause-measured c = (walkable c.args.picture.coding.now c.args.from.now c.requires.spelled).measured
 
 pub returns-clause-at : goal.returns-clause-at
 returns-clause-at c =
-    let seq = c.args.seq.now in
-    let coding = c.args.coding.now in
+    let seq = c.args.picture.seq.now in
+    let coding = c.args.picture.coding.now in
     let state = c.args.state.now in
     let from = c.args.from.now in
     subst (IsCoarserAt seq coding state.m c.args.inner state.source_code state.version_code (Some from)) (sym c.step.ensures.made)

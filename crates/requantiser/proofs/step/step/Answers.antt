@@ -11,14 +11,14 @@ pub returns-clause-made : goal.returns-clause-made
 returns-clause-made c =
     let code : ℕ = c.code_in_force-in_force.result in
     let coded : c.make_blocks-coded.result ≡ true = c.if-not-coded.false in
-    let blocks : Some c.make_blocks-coded.new.to ≡ made_blocks c.args.seq.now c.args.coding.now c.args.inner code c.mapped-mapped.result c.args.from.now =
+    let blocks : Some c.make_blocks-coded.new.to ≡ made_blocks c.args.picture.seq.now c.args.picture.coding.now c.args.inner code c.mapped-mapped.result c.args.from.now =
     ap (λ b. let o : Option (List Block) = if b then Some c.make_blocks-coded.new.to else None in o) (sym coded) ∙ c.make_blocks-coded.ensures in
-    let made : Some c.write_head.new.to ≡ coarsened_macroblock c.args.seq.now c.args.coding.now c.args.state.now.m c.args.inner (unwrap_or c.args.from.now.code c.args.state.now.source_code)
+    let made : Some c.write_head.new.to ≡ coarsened_macroblock c.args.picture.seq.now c.args.picture.coding.now c.args.state.now.m c.args.inner (unwrap_or c.args.from.now.code c.args.state.now.source_code)
     c.args.state.now.version_code (c.args.state.now.skipped + c.args.from.now.skipped_before) c.args.from.now =
     ap (λ (to : Macroblock). Some to) c.write_head.ensures.head
-    ∙ coarsened_macroblock-made c.args.seq.now c.args.coding.now c.args.state.now.m c.args.inner code c.mapped-mapped.result c.args.state.now.version_code
+    ∙ coarsened_macroblock-made c.args.picture.seq.now c.args.picture.coding.now c.args.state.now.m c.args.inner code c.mapped-mapped.result c.args.state.now.version_code
     (c.args.state.now.skipped + c.args.from.now.skipped_before) c.args.from.now (Some c.make_blocks-coded.new.to) c.mapped-mapped.ensures.value blocks
-    ∙ ap (λ n. coarsened_macroblock c.args.seq.now c.args.coding.now c.args.state.now.m c.args.inner n c.args.state.now.version_code
+    ∙ ap (λ n. coarsened_macroblock c.args.picture.seq.now c.args.picture.coding.now c.args.state.now.m c.args.inner n c.args.state.now.version_code
     (c.args.state.now.skipped + c.args.from.now.skipped_before) c.args.from.now) c.code_in_force-in_force.ensures.value in
     made
 
@@ -29,16 +29,16 @@ pub returns-clause-version : goal.returns-clause-version
 returns-clause-version c =
     let code : ℕ = c.code_in_force-in_force.result in
     let coded : c.make_blocks-coded.result ≡ true = c.if-not-coded.false in
-    let blocks : Some c.make_blocks-coded.new.to ≡ made_blocks c.args.seq.now c.args.coding.now c.args.inner code c.mapped-mapped.result c.args.from.now =
+    let blocks : Some c.make_blocks-coded.new.to ≡ made_blocks c.args.picture.seq.now c.args.picture.coding.now c.args.inner code c.mapped-mapped.result c.args.from.now =
     ap (λ b. let o : Option (List Block) = if b then Some c.make_blocks-coded.new.to else None in o) (sym coded) ∙ c.make_blocks-coded.ensures in
-    let made : Some c.write_head.new.to ≡ coarsened_macroblock c.args.seq.now c.args.coding.now c.args.state.now.m c.args.inner (unwrap_or c.args.from.now.code c.args.state.now.source_code)
+    let made : Some c.write_head.new.to ≡ coarsened_macroblock c.args.picture.seq.now c.args.picture.coding.now c.args.state.now.m c.args.inner (unwrap_or c.args.from.now.code c.args.state.now.source_code)
     c.args.state.now.version_code (c.args.state.now.skipped + c.args.from.now.skipped_before) c.args.from.now =
     ap (λ (to : Macroblock). Some to) c.write_head.ensures.head
-    ∙ coarsened_macroblock-made c.args.seq.now c.args.coding.now c.args.state.now.m c.args.inner code c.mapped-mapped.result c.args.state.now.version_code
+    ∙ coarsened_macroblock-made c.args.picture.seq.now c.args.picture.coding.now c.args.state.now.m c.args.inner code c.mapped-mapped.result c.args.state.now.version_code
     (c.args.state.now.skipped + c.args.from.now.skipped_before) c.args.from.now (Some c.make_blocks-coded.new.to) c.mapped-mapped.ensures.value blocks
-    ∙ ap (λ n. coarsened_macroblock c.args.seq.now c.args.coding.now c.args.state.now.m c.args.inner n c.args.state.now.version_code
+    ∙ ap (λ n. coarsened_macroblock c.args.picture.seq.now c.args.picture.coding.now c.args.state.now.m c.args.inner n c.args.state.now.version_code
     (c.args.state.now.skipped + c.args.from.now.skipped_before) c.args.from.now) c.code_in_force-in_force.ensures.value in
     let fits : FitBlocks c.write_head.new.to.kind.intra c.write_head.new.to.blocks =
-    made-fits c.args.seq.now c.args.coding.now c.args.state.now.m c.args.inner (unwrap_or c.args.from.now.code c.args.state.now.source_code) c.args.state.now.version_code
+    made-fits c.args.picture.seq.now c.args.picture.coding.now c.args.state.now.m c.args.inner (unwrap_or c.args.from.now.code c.args.state.now.source_code) c.args.state.now.version_code
     (c.args.state.now.skipped + c.args.from.now.skipped_before) c.args.from.now c.write_head.new.to c.requires.measured made in
     λ e. record { weights = c.requires.weights; code_is = c.code_in_force-state.ensures.is_code; six = fits.six; blocks = fits.each }

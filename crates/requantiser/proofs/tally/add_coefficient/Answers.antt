@@ -11,7 +11,8 @@ add_squares-requires-clause-room c = λ k below. (c.requires.room k below).disto
 
 pub add_squares-requires-clause-small : goal.add_squares-requires-clause-small
 add_squares-requires-clause-small c = λ k below.
-    (c.rung_of-rung.result.now.right c.args.coefficient.weight c.args.rescaling.now.from c.args.rescaling.now.intra (omega arith) (omega (arith, c.args.rescaling.now.from_range)) c.rung_of-rung.ensures.number k below).2
+    (c.rung_of-rung.result.now.right c.args.coefficient.weight c.args.rescaling.now.from c.args.rescaling.now.intra (omega arith)
+    (omega (arith, c.args.rescaling.now.from_range)) c.rung_of-rung.ensures.number k below).2
 
 pub add_sizes-requires-clause-next : goal.add_sizes-requires-clause-next
 add_sizes-requires-clause-next c = λ k below. omega (arith, c.from-at.ensures, (c.requires.room k below).next)
@@ -39,5 +40,6 @@ returns c = λ way table k below.
     counted_by way c.args.coefficient.at size squared (coarser_level level weight from (get_or scales k 0) intra) (level_change level weight from (get_or scales k 0) intra)
     (tally_in c.args.targets.now (with_squares c.args.counts.now c.args.squares.now) k below) (tally_in c.args.targets.now (with_squares c.add_sizes.new.self c.add_squares.new.squares) k below) refl
     (ap (λ (xs : List ℕ). get_or xs k 0) c.add_sizes.ensures.patterns) size_is squared_is is.2
-    (subst (λ (n : ℕ). IsSized way n size (get_or c.args.counts.now.next k 0) (get_or c.args.counts.now.bits k 0) (get_or c.add_sizes.new.self.next k 0) (get_or c.add_sizes.new.self.bits k 0)) c.from-at.ensures
+    (subst (λ (n : ℕ). IsSized way n size (get_or c.args.counts.now.next k 0) (get_or c.args.counts.now.bits k 0) (get_or c.add_sizes.new.self.next k 0) (get_or c.add_sizes.new.self.bits k 0))
+    c.from-at.ensures
     (c.add_sizes.ensures.each way k (table ∙ ap (table_number way) (sym c.from-at.ensures)) below)) (c.add_squares.ensures k below)

@@ -48,11 +48,13 @@ loop-pair-preserved c =
       each = λ k below.
           let scale : ℕ = get_or c.args.targets.now.scales k 0 in
           one_tally c.args.way (new_level_in c.args.weights.now c.args.rescaling.alternate intra from scale) (change_in c.args.weights.now c.args.rescaling.alternate intra from scale)
-          c.loop-pair.place c.loop-pair.pair-index c.args.pairs.now no_pair (tally_in c.args.targets.now c.args.counts.now k below) (tally_in c.args.targets.now (with_squares c.loop-pair.counts c.loop-pair.squares) k below)
+          c.loop-pair.place c.loop-pair.pair-index c.args.pairs.now no_pair (tally_in c.args.targets.now c.args.counts.now k below)
+          (tally_in c.args.targets.now (with_squares c.loop-pair.counts c.loop-pair.squares) k below)
           (tally_in c.args.targets.now (with_squares c.add_coefficient.new.counts c.add_coefficient.new.squares) k below) _ _ within
           (ap (λ (l : ℤ). coarser_level l c.weight_in_scan-weight.result from scale intra) held ∙ ap (λ (w : ℕ). coarser_level pair.level w from scale intra) weight)
           (ap (λ (l : ℤ). level_change l c.weight_in_scan-weight.result from scale intra) held ∙ ap (λ (w : ℕ). level_change pair.level w from scale intra) weight)
-          (c.add_coefficient.ensures c.args.way (c.table_at-table.ensures.value c.args.way c.table_number-first.ensures.value c.table_number-later.ensures.value) k below) (c.loop-pair.invariant.each k below);
+          (c.add_coefficient.ensures c.args.way (c.table_at-table.ensures.value c.args.way c.table_number-first.ensures.value c.table_number-later.ensures.value) k below)
+          (c.loop-pair.invariant.each k below);
       fit = here.2;
       within = omega (arith, here.0);
     }

@@ -1,7 +1,7 @@
 use Rattle.std.proofs.Common.{Option, sym, subst}
 use Rattle.shelf_io.specs.Files.{Files}
 use Rattle.command_words.specs.Ended.{answer_of}
-use Rattle.command_words.specs.Outside.{shelf_facts}
+use Rattle.shelf_io.specs.Facts.{shelf_facts}
 use Rattle.command_words.proofs.Performed.{behind_reads}
 use Rattle.job_files.specs.JobTable.{IsJobTable}
 use Rattle.job_files.proofs.JobStopped.{stop_performs}

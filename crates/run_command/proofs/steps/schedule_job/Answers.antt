@@ -1,5 +1,5 @@
 use Rattle.std.proofs.Common.{inl, refl}
-use Rattle.command_words.specs.Outside.{shelf_facts}
+use Rattle.shelf_io.specs.Facts.{shelf_facts}
 use Rattle.command_words.proofs.Performed.{wants_uncalled}
 use Rattle.run_command.specs.RunCommand.{run_task_of}
 use Rattle.run_command.proofs.RunSteps.{missed_never}

@@ -2,7 +2,7 @@ use Rattle.std.proofs.Common.{◌∙◌, List, ℕ, Err, ap, subst}
 use Rattle.shelf_io.specs.Files.{with_content}
 use Rattle.shelf_io.specs.WholeFile.{HoldsPrefix}
 use Rattle.shelf_io.proofs.Counted.{never_failed}
-use Rattle.command_words.specs.Outside.{shelf_facts}
+use Rattle.shelf_io.specs.Facts.{shelf_facts}
 use Rattle.run_command.proofs.Certified.{certifies_broken, certifies_wanting, certifies_whole}
 use Rattle.run_command.proofs.steps.write_certificate.Goals as goal
 

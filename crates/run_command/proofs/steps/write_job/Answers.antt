@@ -1,6 +1,6 @@
 use Rattle.std.proofs.Common.{Err, ap, inl, refl}
 use Rattle.shelf_io.proofs.Counted.{never_failed}
-use Rattle.command_words.specs.Outside.{shelf_facts}
+use Rattle.shelf_io.specs.Facts.{shelf_facts}
 use Rattle.command_words.proofs.Performed.{unwritten, wants_within}
 use Rattle.run_command.specs.RunCommand.{run_task_of}
 use Rattle.run_command.proofs.RunSteps.{run_performs, stream_broken}

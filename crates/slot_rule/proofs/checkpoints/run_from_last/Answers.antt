@@ -10,7 +10,9 @@ use Rattle.slot_rule.proofs.checkpoints.run_from_last.Goals as goal
 
 pub overflow_mul-from : goal.overflow_mul-from
 overflow_mul-from c =
-    let most = mul-le c.args.apart (c.len-last.result - 1) 2097152 1024 (omega (arith, c.requires.apart, apart-most c.args.table.now c.requires.valid)) (omega (arith, c.len-last.ensures, c.requires.few)) in
+    let most =
+    mul-le c.args.apart (c.len-last.result - 1) 2097152 1024
+    (omega (arith, c.requires.apart, apart-most c.args.table.now c.requires.valid)) (omega (arith, c.len-last.ensures, c.requires.few)) in
     omega (arith, most)
 
 pub loop-from-init : goal.loop-from-init

@@ -24,7 +24,8 @@ run_from_last-requires-in-Some-clause-are c =
 
 pub returns-in-None-clause-tells : goal.returns-in-None-clause-tells
 returns-in-None-clause-tells c =
-    inl (IsScheduled-empty c.args.table.now c.args.choice.now c.args.first c.requires.first (subst (λ (list : List QueueState). IsFirstHead Passes list None) c.as_slice.ensures.value c.in-None.ensures))
+    inl (IsScheduled-empty c.args.table.now c.args.choice.now c.args.first c.requires.first
+    (subst (λ (list : List QueueState). IsFirstHead Passes list None) c.as_slice.ensures.value c.in-None.ensures))
 
 pub returns-in-None-clause-counts : goal.returns-in-None-clause-counts
 returns-in-None-clause-counts c =

@@ -1,4 +1,4 @@
-use Rattle.std.proofs.Common.{◌≡◌, ◌+◌, ◌≤◌, ◌<◌, ◌++◌, ◌||◌, ◌^◌, ap, sym, subst, ◌∙◌, map, All, arith, inl, inr, Some}
+use Rattle.std.proofs.Common.{◌≡◌, ◌≤◌, ◌<◌, ◌++◌, ◌||◌, ◌^◌, ap, sym, subst, ◌∙◌, map, All, arith, inl, inr}
 use Rattle.std.specs.Option.{option_to_list}
 use Rattle.std.proofs.lemmas.List.{map-append}
 use Rattle.ts_packets.specs.TransportStream.{is_of_pid, piece_count}
@@ -23,7 +23,7 @@ push_section-requires-clause-few c =
     let within = c.in-Some.ensures.some.0 in
     let less : n < 2 ^ 32 = omega (arith, within, c.requires.few) in
     found_few file n (2 ^ 32) (is_of_pid file pat_pid n || is_of_pid file c.args.map_pid n) c.in-Ok.found
-    (c.in-Ok.ensures.taken file c.args.map_pid within c.in-Some.ensures.some.1 c.loop-bytes.invariant.stand) less
+    (c.in-Ok.ensures.taken file c.args.map_pid within c.in-Some.ensures.some.1 c.loop-bytes.invariant.stand).found_is less
 
 pub loop-bytes-preserved : goal.loop-bytes-preserved
 loop-bytes-preserved c =
@@ -33,7 +33,7 @@ loop-bytes-preserved c =
     let n = c.loop-bytes.n in
     let within = c.in-Some.ensures.some.0 in
     let bytes_are = c.in-Some.ensures.some.1 in
-    let found = c.in-Ok.ensures.taken file map_pid within bytes_are was.stand in
+    let found = (c.in-Ok.ensures.taken file map_pid within bytes_are was.stand).found_is in
     record {
       most = omega (arith, within);
       stand = c.in-Ok.ensures.behind file map_pid within bytes_are was.stand;

@@ -1,4 +1,4 @@
-use Rattle.std.proofs.Common.{map, refl}
+use Rattle.std.proofs.Common.{refl}
 use Rattle.stream_audit.proofs.SystemLaws.{system_judged}
 use Rattle.stream_audit.proofs.sections.system_stream.Goals as goal
 

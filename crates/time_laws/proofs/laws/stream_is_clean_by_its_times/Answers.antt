@@ -8,5 +8,5 @@ returns c job contents programs table choice slots stream valid are of table_val
   fits = fits;
   slot_is = of.slot;
   carried = c.stream_carries_its_times.ensures job contents programs table choice slots stream valid are of table_valid fits list in_slots bytes;
-  clean = c.stream_is_clean.ensures job contents programs table choice slots stream valid are of table_valid fits list in_slots;
+  clean = c.stream_is_clean.ensures job programs table choice slots stream valid (c.programs_of_contents_are_read.ensures job contents programs are bytes) of table_valid fits list in_slots;
 }

@@ -1,47 +1,24 @@
-use Rattle.std.proofs.Common.{◌≤◌, ◌<◌, List, ℕ, length, map, refl, sym, ap, ◌∙◌, subst, arith}
+use Rattle.std.proofs.Common.{◌<◌, List, length, map, sym, ap, ◌∙◌, subst, arith}
 use Rattle.psi_tables.specs.declared.stream.Stream.{Stream}
 use Rattle.ts_demux.specs.declared.demuxed.AudioStream.{AudioStream}
-use Rattle.ts_demux.specs.Demux.{HasCarriedMap, audios, long_map}
 use Rattle.ts_demux.specs.Private.StreamWalk.{AreGathered, IsGatherFault}
-use Rattle.ts_demux.proofs.DemuxSteps.{front_refused, carry_refused, gather_refused, all_of, some_of, first_of, others_of_first, rest_size}
+use Rattle.ts_demux.proofs.DemuxSteps.{gather_refused, all_of, some_of, first_of, others_of_first, rest_size}
 use Rattle.ts_demux.specs.CarriedPackets.{AreDistinct}
 use Rattle.ts_demux.proofs.DistinctPids.{carried_distinct}
 use Rattle.ts_demux.proofs.demux_program.demux.Goals as goal
 
-pub returns-in-Err-carry_streams : goal.returns-in-Err-carry_streams
-returns-in-Err-carry_streams c = carry_refused c.args.file.now c.args.program c.args.drop.now c.in-Ok.whole c.in-Err-carry_streams.fault
-    c.in-Ok.ensures.0 c.in-Ok.ensures.1 c.in-Err-carry_streams.ensures
-
-pub returns-then-len-gt-STREAMS_CARRIED : goal.returns-then-len-gt-STREAMS_CARRIED
-returns-then-len-gt-STREAMS_CARRIED c =
-    let carried = c.in-Ok-carry_streams.carried in
-    let has : HasCarriedMap c.args.file.now c.args.program c.args.drop.now carried.map carried.others = record
-    { long = c.in-Ok.ensures.0; whole = c.in-Ok.whole; tables = c.in-Ok.ensures.1; carried_is = c.in-Ok-carry_streams.ensures } in
-    audios carried.map carried.others has (omega (arith, c.len.ensures.value, c.if-len-gt-STREAMS_CARRIED.true)) refl
-
-pub returns-then-pmt_length-gt-PACKET_SECTION_BYTES : goal.returns-then-pmt_length-gt-PACKET_SECTION_BYTES
-returns-then-pmt_length-gt-PACKET_SECTION_BYTES c =
-    let carried = c.in-Ok-carry_streams.carried in
-    let has : HasCarriedMap c.args.file.now c.args.program c.args.drop.now carried.map carried.others = record
-    { long = c.in-Ok.ensures.0; whole = c.in-Ok.whole; tables = c.in-Ok.ensures.1; carried_is = c.in-Ok-carry_streams.ensures } in
-    long_map carried.map carried.others has (omega (arith, c.len.ensures.value, c.if-len-gt-STREAMS_CARRIED.false))
-    (subst (λ (n : ℕ). 183 < n) c.pmt_length.ensures c.if-pmt_length-gt-PACKET_SECTION_BYTES.true) refl
-
 pub returns-in-Err-gather_in : goal.returns-in-Err-gather_in
 returns-in-Err-gather_in c =
-    let carried = c.in-Ok-carry_streams.carried in
-    let has : HasCarriedMap c.args.file.now c.args.program c.args.drop.now carried.map carried.others = record
-    { long = c.in-Ok.ensures.0; whole = c.in-Ok.whole; tables = c.in-Ok.ensures.1; carried_is = c.in-Ok-carry_streams.ensures } in
-    gather_refused c.args.file.now c.args.program c.args.drop.now carried.map carried.others c.in-Err-gather_in.fault has
-    (omega (arith, c.len.ensures.value, c.if-len-gt-STREAMS_CARRIED.false))
-    (subst (λ (n : ℕ). n ≤ 183) c.pmt_length.ensures c.if-pmt_length-gt-PACKET_SECTION_BYTES.false)
+    let carried = c.in-Ok.carried in
+    let has = c.in-Ok.ensures in
+    gather_refused c.args.file.now c.args.program c.args.drop.now carried.map carried.others c.in-Err-gather_in.fault has.tables has.few has.short
     (subst (λ (items : List Stream). IsGatherFault c.args.file.now (map (λ (stream : Stream). stream.pid) items) c.in-Err-gather_in.fault)
     c.as_slice-streams.ensures.value c.in-Err-gather_in.ensures)
 
 pub remove-video-requires : goal.remove-video-requires
 remove-video-requires c =
-    let carried = c.in-Ok-carry_streams.carried in
-    let is = c.in-Ok-carry_streams.ensures in
+    let carried = c.in-Ok.carried in
+    let is = c.in-Ok.ensures.tables.carried_is in
     let gathered : AreGathered c.args.file.now (map (λ (stream : Stream). stream.pid) carried.map.streams.items) c.in-Ok-gather_in.gatherers.items =
     subst (λ (items : List Stream). AreGathered c.args.file.now (map (λ (stream : Stream). stream.pid) items) c.in-Ok-gather_in.gatherers.items)
     c.as_slice-streams.ensures.value c.in-Ok-gather_in.ensures in
@@ -51,18 +28,17 @@ remove-video-requires c =
 
 pub returns : goal.returns
 returns c =
-    let carried = c.in-Ok-carry_streams.carried in
-    let is = c.in-Ok-carry_streams.ensures in
-    let has : HasCarriedMap c.args.file.now c.args.program c.args.drop.now carried.map carried.others = record
-    { long = c.in-Ok.ensures.0; whole = c.in-Ok.whole; tables = c.in-Ok.ensures.1; carried_is = is } in
+    let carried = c.in-Ok.carried in
+    let has = c.in-Ok.ensures in
+    let is = has.tables.carried_is in
     let gathered : AreGathered c.args.file.now (map (λ (stream : Stream). stream.pid) carried.map.streams.items) c.in-Ok-gather_in.gatherers.items =
     subst (λ (items : List Stream). AreGathered c.args.file.now (map (λ (stream : Stream). stream.pid) items) c.in-Ok-gather_in.gatherers.items)
     c.as_slice-streams.ensures.value c.in-Ok-gather_in.ensures in
     let all = all_of c.args.file.now carried.map.streams.items is.video _ c.in-Ok-all_streams.streams.items c.in-Ok-gather_in.gatherers.items is.streams gathered c.in-Ok-all_streams.ensures.ok in
     record {
-      tables = has;
-      few = omega (arith, c.len.ensures.value, c.if-len-gt-STREAMS_CARRIED.false);
-      short = subst (λ (n : ℕ). n ≤ 183) c.pmt_length.ensures c.if-pmt_length-gt-PACKET_SECTION_BYTES.false;
+      tables = has.tables;
+      few = has.few;
+      short = has.short;
       sound = gathered.sound;
       video = is.video;
       audios = _;
@@ -74,9 +50,7 @@ returns c =
 
 pub gather_in-requires-clause-distinct : goal.gather_in-requires-clause-distinct
 gather_in-requires-clause-distinct c =
-    let carried = c.in-Ok-carry_streams.carried in
+    let carried = c.in-Ok.carried in
+    let has = c.in-Ok.ensures.tables in
     subst (λ (items : List Stream). AreDistinct (map (λ (stream : Stream). stream.pid) items)) (sym c.as_slice-streams.ensures.value)
-    (carried_distinct c.args.drop.now c.in-Ok.whole carried.map carried.others c.in-Ok-carry_streams.ensures)
-
-pub returns-in-Err : goal.returns-in-Err
-returns-in-Err c = front_refused c.args.file.now c.args.program c.args.drop.now c.in-Err.fault c.in-Err.ensures
+    (carried_distinct c.args.drop.now has.whole carried.map carried.others has.carried_is)

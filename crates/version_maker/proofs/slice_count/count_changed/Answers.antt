@@ -8,10 +8,10 @@ coded_head-head-requires-clause-stays c = sym c.is_emptied.ensures ∙ c.if-is_e
 
 pub returns : goal.returns
 returns c =
-    let coding = c.args.coding.now in
+    let coding = c.args.picture.coding.now in
     let from = c.args.from.now in
     let head = c.coded_head-head.result in
-    let outlined = c.coded_head-head.ensures c.args.seq.now coding c.args.inner c.args.lent.now.macroblock c.requires.spelled c.requires.can.tallied in
+    let outlined = c.coded_head-head.ensures c.args.picture.seq.now coding c.args.inner c.args.lent.now.macroblock c.requires.spelled c.requires.can.tallied in
     let step : Step = record { from = from; made = outlined.made; behind = c.coded_head-head.new.state; distortion = c.args.tally.distortion } in
     record {
       step = step;
@@ -22,11 +22,11 @@ returns c =
         bits = omega (
           arith,
           c.from.ensures,
-          c.head_in_version.ensures.value coding from.kind c.requires.kinds,
-          outline-counted coding from head c.args.shared c.requires.spelled c.requires.shared,
+          c.head_in_version.ensures.value coding from.kind c.requires.bits.kinds,
+          outline-counted coding from head c.args.bits.motion_and_dc c.requires.spelled c.requires.bits.motion_and_dc,
           outlined.bits,
         );
-        few = omega (arith, c.from.ensures, c.head_in_version.ensures.few, c.requires.few, c.requires.can.tallied.few);
+        few = omega (arith, c.from.ensures, c.head_in_version.ensures.few, c.requires.bits.few, c.requires.can.tallied.few);
         distortion = refl;
         small = omega (arith, c.requires.can.tallied.small);
       };

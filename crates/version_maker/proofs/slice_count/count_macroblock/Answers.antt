@@ -14,14 +14,14 @@ count_version-requires-clause-can c =
     let k : ℕ = c.loop-k.k in
     let before : VersionCount = c.index-counts-k.result in
     let tally : Tally = c.index-tallies-k.result in
-    subst (CanCount c.args.seq.now c.args.coding.now c.args.from.now (get_or c.args.tallies.now k tally)) (sym (c.loop-k.invariant.stay k before (omega arith)))
+    subst (CanCount c.args.picture.seq.now c.args.picture.coding.now c.args.from.now (get_or c.args.tallies.now k tally)) (sym (c.loop-k.invariant.stay k before (omega arith)))
     (c.requires.each k before tally c.loop-k-test.true)
 
 pub loop-k-preserved : goal.loop-k-preserved
 loop-k-preserved c =
     let k : ℕ = c.loop-k.k in
     let within : k < length c.loop-k.counts = omega (arith, c.loop-k-test.true, c.requires.count, c.loop-k.invariant.len) in
-    let P : VersionCount → VersionCount → Type 0 = IsCountedMacroblock c.args.seq.now c.args.coding.now c.args.inner c.args.from.now in
+    let P : VersionCount → VersionCount → Type 0 = IsCountedMacroblock c.args.picture.seq.now c.args.picture.coding.now c.args.inner c.args.from.now in
     let here : (d : VersionCount) → get_or c.loop-k.counts k c.index-counts-k.result ≡ get_or c.args.counts.now k d = λ d.
     get_or_default c.loop-k.counts k c.index-counts-k.result d within ∙ c.loop-k.invariant.stay k d (omega arith) in
     record {

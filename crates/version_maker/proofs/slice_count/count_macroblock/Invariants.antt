@@ -7,6 +7,6 @@ use Rattle.version_maker.proofs.slice_count.count_macroblock.Given as goal
 abbrev pub invariant-loop-k : goal.invariant-loop-k
 invariant-loop-k l = record {
   len : length l.counts ≡ 8;
-  went : (j : ℕ) (d : VersionCount) → j < l.k → IsCountedMacroblock l.seq l.coding l.inner l.from (get_or l.initial.counts j d) (get_or l.counts j d);
+  went : (j : ℕ) (d : VersionCount) → j < l.k → IsCountedMacroblock l.picture.seq.now l.picture.coding.now l.inner l.from (get_or l.initial.counts j d) (get_or l.counts j d);
   stay : (j : ℕ) (d : VersionCount) → l.k ≤ j → get_or l.counts j d ≡ get_or l.initial.counts j d;
 }

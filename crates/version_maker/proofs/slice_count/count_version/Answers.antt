@@ -9,11 +9,11 @@ use Rattle.version_maker.proofs.slice_count.count_version.Goals as goal
 
 pub returns-then-stays : goal.returns-then-stays
 returns-then-stays c =
-    let coding = c.args.coding.now in
+    let coding = c.args.picture.coding.now in
     let from = c.args.from.now in
     let head : Head = c.stayed_head-head.result in
     let state = c.args.count.now.state in
-    let outlined = c.stayed_head-head.ensures.outlined c.args.seq.now coding c.args.inner state c.args.lent.now.macroblock (sym c.stays.ensures ∙ c.if-stays.true)
+    let outlined = c.stayed_head-head.ensures.outlined c.args.picture.seq.now coding c.args.inner state c.args.lent.now.macroblock (sym c.stays.ensures ∙ c.if-stays.true)
     c.requires.spelled c.requires.can.tallied in
     let step : Step = record { from = from; made = outlined.made; behind = state; distortion = c.args.tally.now.distortion } in
     let pattern : ℕ = head.pattern in
@@ -30,9 +30,9 @@ returns-then-stays c =
         bits = omega (
           arith,
           c.from.ensures,
-          c.at.ensures.value coding from c.args.shared c.requires.stayed,
+          c.at.ensures.value coding from c.args.bits.now.motion_and_dc c.requires.bits.stayed,
           lengths,
-          outline-counted coding from head c.args.shared c.requires.spelled c.requires.shared,
+          outline-counted coding from head c.args.bits.now.motion_and_dc c.requires.spelled c.requires.bits.motion_and_dc,
           outlined.bits,
         );
         few = omega (arith, c.from.ensures, c.at.ensures.few, c.requires.can.tallied.few);

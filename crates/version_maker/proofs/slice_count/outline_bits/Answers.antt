@@ -10,8 +10,8 @@ use Rattle.version_maker.proofs.slice_count.outline_bits.Goals as goal
 
 pub returns-in-Coded-clause-value : goal.returns-in-Coded-clause-value
 returns-in-Coded-clause-value c =
-    ap (λ (n : ℕ). n + c.args.shared) (c.head_in_version.ensures.value c.args.coding.now c.args.from.now.kind c.requires.kinds)
-    ∙ outline-counted c.args.coding.now c.args.from.now c.in-Coded.head c.args.shared c.requires.spelled c.requires.shared
+    ap (λ (n : ℕ). n + c.args.bits.motion_and_dc) (c.head_in_version.ensures.value c.args.coding.now c.args.from.now.kind c.requires.bits.kinds)
+    ∙ outline-counted c.args.coding.now c.args.from.now c.in-Coded.head c.args.bits.motion_and_dc c.requires.spelled c.requires.bits.motion_and_dc
     ∙ ap (λ (o : Outline). length (flat_map (written_macroblock c.args.coding.now) (option_to_list (told_by c.args.coding.now c.args.from.now c.args.lent.now o)))) (sym c.in-Coded.is)
 
 pub returns-in-Kept-clause-value : goal.returns-in-Kept-clause-value

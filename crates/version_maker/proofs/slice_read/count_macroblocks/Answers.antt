@@ -36,7 +36,7 @@ macroblocks-init g c =
       ends = refl;
       closed = false;
       is_closed = inl refl;
-      each = λ k d below. none-counted c.args.seq.now c.args.coding.now (slice_index c.args.ratios.now k) c.args.code (get_or c.args.counts.now k d) (c.requires.start k d below);
+      each = λ k d below. none-counted c.args.picture.seq.now c.args.picture.coding.now (slice_index c.args.ratios.now k) c.args.code (get_or c.args.counts.now k d) (c.requires.start k d below);
       states = λ k d below. let is = c.requires.start k d below in (is.ratio, is.source_code);
       code = c.requires.code;
       keeps = record { same_source = refl; keeps = g.met.S.Source.keeps_itself _; faults = omega arith; absences = omega arith };
@@ -44,14 +44,14 @@ macroblocks-init g c =
 
 pub returns-in_err-is_more-clause-gives : goal.returns-in_err-is_more-clause-gives
 returns-in_err-is_more-clause-gives g c = λ bits told_bits.
-    let next = next_macroblock c.args.seq.now c.args.coding.now in
+    let next = next_macroblock c.args.picture.seq.now c.args.picture.coding.now in
     let inv = c.macroblocks.invariant in
     let end : ℕ = place c.args.from.now + length bits in
     let both : Some bits ≡ Some inv.bits = sym told_bits ∙ inv.told in
     let same : bits ≡ inv.bits = cc in
     let has : Rests c.macroblocks.from end inv.middle = record { told = inv.left; ends = omega (arith, inv.ends, ap length same) } in
     let told = refusal_told c.in_err-is_more.field-0.0 in
-    let refused = explains-told (next inv.macroblocks) c.macroblocks.from end inv.middle told (c.in_err-is_more.ensures.refused c.args.seq.now inv.macroblocks inv.stands) has in
+    let refused = explains-told (next inv.macroblocks) c.macroblocks.from end inv.middle told (c.in_err-is_more.ensures.refused c.args.picture.seq.now inv.macroblocks inv.stands) has in
     let p = err_from_is_err_and c.from_residual.result c.from_residual.ensures.1 in
     rw (p.1, p.2) (subst (λ (b : List ℕ). RefusesTold (many next) told end b) (sym same) (list-refused next inv.macroblocks told end inv.bits inv.middle inv.front refused))
 
@@ -59,12 +59,12 @@ pub returns-in_err-closed-clause-gives : goal.returns-in_err-closed-clause-gives
 returns-in_err-closed-clause-gives g c = λ bits told_bits.
     let p = err_from_is_err_and c.from_residual-in_err-closed.result c.from_residual-in_err-closed.ensures.1 in
     rw (p.1, p.2)
-    (none-told (many (next_macroblock c.args.seq.now c.args.coding.now)) (refusal_told c.in_err-closed.field-0.0) (place c.args.from.now + length bits) bits c.in_err-closed.ensures.outside)
+    (none-told (many (next_macroblock c.args.picture.seq.now c.args.picture.coding.now)) (refusal_told c.in_err-closed.field-0.0) (place c.args.from.now + length bits) bits c.in_err-closed.ensures.outside)
 
 pub returns-then-not-is_more-clause-gives : goal.returns-then-not-is_more-clause-gives
 returns-then-not-is_more-clause-gives g c = λ bits told_bits.
-    let seq = c.args.seq.now in
-    let coding = c.args.coding.now in
+    let seq = c.args.picture.seq.now in
+    let coding = c.args.picture.coding.now in
     let next = next_macroblock seq coding in
     let inv = c.macroblocks.invariant in
     let ms = inv.macroblocks in
@@ -91,8 +91,8 @@ returns-then-not-is_more-clause-gives g c = λ bits told_bits.
 
 pub count_next-in_force-requires-clause-spelled : goal.count_next-in_force-requires-clause-spelled
 count_next-in_force-requires-clause-spelled g c =
-    let seq = c.args.seq.now in
-    let coding = c.args.coding.now in
+    let seq = c.args.picture.seq.now in
+    let coding = c.args.picture.coding.now in
     let next = next_macroblock seq coding in
     let inv = c.macroblocks.invariant in
     let ms = inv.macroblocks in
@@ -116,7 +116,7 @@ count_next-in_force-requires-clause-each g c = λ k d below.
       c.columns-columns.ensures.value,
       c.columns-columns.ensures.few,
     ) in
-    can-count c.args.seq.now c.args.coding.now start.state inv.macroblocks inv.closed (slice_index c.args.ratios.now k) c.macroblocks.in_force c.next.new.into
+    can-count c.args.picture.seq.now c.args.picture.coding.now start.state inv.macroblocks inv.closed (slice_index c.args.ratios.now k) c.macroblocks.in_force c.next.new.into
     (get_or c.macroblocks.counts k d) few states.0 states.1 (inv.each k d below)
 
 pub with-span-requires : goal.with-span-requires
@@ -125,8 +125,8 @@ with-span-requires g c =
 
 pub macroblocks-preserved : goal.macroblocks-preserved
 macroblocks-preserved g c =
-    let seq = c.args.seq.now in
-    let coding = c.args.coding.now in
+    let seq = c.args.picture.seq.now in
+    let coding = c.args.picture.coding.now in
     let next = next_macroblock seq coding in
     let inv = c.macroblocks.invariant in
     let ms = inv.macroblocks in

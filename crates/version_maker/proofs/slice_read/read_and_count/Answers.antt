@@ -24,7 +24,7 @@ returns-in_err-head-clause-gives c = λ row.
     { told = c.new-reader.ensures.left ∙ ap (λ b. Some (bit_list b)) c.new-source.ensures; ends = omega (arith, c.new-reader.ensures.place) } in
     let told = refusal_told c.in_err-head.field-0.0 in
     let p = err_from_is_err_and c.from_residual.result c.from_residual.ensures.1 in
-    rw (p.1, p.2) (head-told c.args.seq.now c.args.coding.now row told (length bits) bits
+    rw (p.1, p.2) (head-told c.args.picture.seq.now c.args.picture.coding.now row told (length bits) bits
     (explains-told slice_head c.new-reader.result (length bits) bits told c.in_err-head.ensures.refused has))
 
 pub returns-in_err-head-clause-inside : goal.returns-in_err-head-clause-inside
@@ -59,8 +59,8 @@ count_macroblocks-requires-clause-told c =
 pub returns-in_err-span-clause-gives : goal.returns-in_err-span-clause-gives
 returns-in_err-span-clause-gives c = λ row.
     let bits = bit_list c.args.bytes.now in
-    let seq = c.args.seq.now in
-    let coding = c.args.coding.now in
+    let seq = c.args.picture.seq.now in
+    let coding = c.args.picture.coding.now in
     let has : Rests c.new-reader.result (length bits) bits = record
     { told = c.new-reader.ensures.left ∙ ap (λ b. Some (bit_list b)) c.new-source.ensures; ends = omega (arith, c.new-reader.ensures.place) } in
     let (middle, s, left) = reads-told slice_head c.new-reader.result (length bits) bits c.read_slice_head.new.from c.in_ok-head.head c.in_ok-head.ensures.ok has in
@@ -85,8 +85,8 @@ info_bits-slice-requires c =
 pub returns-clause-gives : goal.returns-clause-gives
 returns-clause-gives c = λ row.
     let bits = bit_list c.args.bytes.now in
-    let seq = c.args.seq.now in
-    let coding = c.args.coding.now in
+    let seq = c.args.picture.seq.now in
+    let coding = c.args.picture.coding.now in
     let head = c.in_ok-head.head in
     let has : Rests c.new-reader.result (length bits) bits = record
     { told = c.new-reader.ensures.left ∙ ap (λ b. Some (bit_list b)) c.new-source.ensures; ends = omega (arith, c.new-reader.ensures.place) } in

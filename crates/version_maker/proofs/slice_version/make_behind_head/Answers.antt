@@ -30,8 +30,8 @@ write_close-requires g c =
 
 pub returns-clause-gives : goal.returns-clause-gives
 returns-clause-gives g c = λ end bits has.
-    let seq = c.args.seq.now in
-    let coding = c.args.coding.now in
+    let seq = c.args.picture.seq.now in
+    let coding = c.args.picture.coding.now in
     let head = c.args.head.now in
     let row = c.args.row in
     let start = c.new-start.result in

@@ -12,14 +12,14 @@ write_where_coded-requires-clause-spelled g c = λ coded.
     let state = c.args.state.now in
     let from = c.args.lent.now.from in
     let to = c.requantise_macroblock-coded.new.to.macroblock in
-    made-spelled c.args.seq.now c.args.coding.now state.m c.args.inner state.source_code state.version_code from to c.requires.spelled
-    (subst (λ b. IsCoarserAt c.args.seq.now c.args.coding.now state.m c.args.inner state.source_code state.version_code (Some from) (made_of b to)) coded
+    made-spelled c.args.picture.seq.now c.args.picture.coding.now state.m c.args.inner state.source_code state.version_code from to c.requires.spelled
+    (subst (λ b. IsCoarserAt c.args.picture.seq.now c.args.picture.coding.now state.m c.args.inner state.source_code state.version_code (Some from) (made_of b to)) coded
     c.requantise_macroblock-coded.ensures.at)
 
 pub returns : goal.returns
 returns g c =
-    let seq = c.args.seq.now in
-    let coding = c.args.coding.now in
+    let seq = c.args.picture.seq.now in
+    let coding = c.args.picture.coding.now in
     let from = c.args.lent.now.from in
     let made = c.requantise_macroblock-coded in
     let behind = made.new.state in

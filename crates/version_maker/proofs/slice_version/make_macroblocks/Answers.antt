@@ -29,26 +29,26 @@ macroblocks-init g c = record {
   counted = omega (arith, c.new-cursor.ensures.left, c.new-span.ensures.end);
   spans = c.new-span.ensures.so_far;
   room = omega (arith, c.new-cursor.ensures.left, c.requires.none);
-  read = λ end bits has. (bits, refl, has, none-in-order c.args.seq.now c.args.coding.now c.args.start bits);
+  read = λ end bits has. (bits, refl, has, none-in-order c.args.picture.seq.now c.args.picture.coding.now c.args.start bits);
   keeps = search rules;
   goes = goes-nowhere c.args.to.now c.requires.goes;
 }
 
 pub returns-in_err-is_more-clause-gives : goal.returns-in_err-is_more-clause-gives
 returns-in_err-is_more-clause-gives g c = λ end bits has.
-    let next = next_macroblock c.args.seq.now c.args.coding.now in
+    let next = next_macroblock c.args.picture.seq.now c.args.picture.coding.now in
     let inv = c.macroblocks.invariant in
     let ms = taken_by inv.steps in
     let (middle, spelled, left, order) = inv.read end bits has in
     let told = refusal_told c.in_err-is_more.field-0.0 in
-    let refused = explains-told (next ms) c.macroblocks.from end middle told (c.in_err-is_more.ensures.refused c.args.seq.now ms inv.stands) left in
+    let refused = explains-told (next ms) c.macroblocks.from end middle told (c.in_err-is_more.ensures.refused c.args.picture.seq.now ms inv.stands) left in
     let p = err_from_is_err_and c.from_residual.result c.from_residual.ensures.1 in
     rw (p.1, p.2) (list-refused next ms told end bits middle spelled refused)
 
 pub returns-then-not-is_more-clause-gives : goal.returns-then-not-is_more-clause-gives
 returns-then-not-is_more-clause-gives g c = λ end bits has.
-    let seq = c.args.seq.now in
-    let coding = c.args.coding.now in
+    let seq = c.args.picture.seq.now in
+    let coding = c.args.picture.coding.now in
     let next = next_macroblock seq coding in
     let inv = c.macroblocks.invariant in
     let ms = taken_by inv.steps in
@@ -72,8 +72,8 @@ with-span-requires g c =
 
 pub make_macroblock-requires-clause-spelled : goal.make_macroblock-requires-clause-spelled
 make_macroblock-requires-clause-spelled g c =
-    let seq = c.args.seq.now in
-    let coding = c.args.coding.now in
+    let seq = c.args.picture.seq.now in
+    let coding = c.args.picture.coding.now in
     let next = next_macroblock seq coding in
     let inv = c.macroblocks.invariant in
     let ms = taken_by inv.steps in
@@ -91,8 +91,8 @@ make_macroblock-requires-clause-room g c =
 
 pub macroblocks-preserved : goal.macroblocks-preserved
 macroblocks-preserved g c =
-    let seq = c.args.seq.now in
-    let coding = c.args.coding.now in
+    let seq = c.args.picture.seq.now in
+    let coding = c.args.picture.coding.now in
     let start = c.args.start in
     let next = next_macroblock seq coding in
     let inv = c.macroblocks.invariant in

@@ -22,7 +22,7 @@ returns-in_err-head-clause-gives g c =
     { told = c.new-reader.ensures.left ∙ ap (λ b. Some (bit_list b)) c.new-source.ensures; ends = omega (arith, c.new-reader.ensures.place) } in
     let told = refusal_told c.in_err-head.field-0.0 in
     let p = err_from_is_err_and c.from_residual.result c.from_residual.ensures.1 in
-    rw (p.1, p.2) (head-told c.args.seq.now c.args.coding.now c.args.row told (length bits) bits
+    rw (p.1, p.2) (head-told c.args.picture.seq.now c.args.picture.coding.now c.args.row told (length bits) bits
     (explains-told slice_head c.new-reader.result (length bits) bits told c.in_err-head.ensures.refused has))
 
 pub returns-in_err-head-clause-inside : goal.returns-in_err-head-clause-inside
@@ -38,7 +38,7 @@ returns-in_err-span-clause-gives g c =
     let (middle, s, left) = reads-told slice_head c.new-reader.result (length bits) bits c.read_slice_head.new.from c.in_ok-head.head c.in_ok-head.ensures.ok has in
     let told = refusal_told c.in_err-span.field-0.0 in
     let p = err_from_is_err_and c.from_residual-in_err-span.result c.from_residual-in_err-span.ensures.1 in
-    rw (p.1, p.2) (rest-told c.args.seq.now c.args.coding.now c.args.row c.in_ok-head.head told (length bits) bits middle s (c.in_err-span.ensures.gives (length bits) middle left))
+    rw (p.1, p.2) (rest-told c.args.picture.seq.now c.args.picture.coding.now c.args.row c.in_ok-head.head told (length bits) bits middle s (c.in_err-span.ensures.gives (length bits) middle left))
 
 pub returns-in_err-span-clause-inside : goal.returns-in_err-span-clause-inside
 returns-in_err-span-clause-inside g c =
@@ -48,8 +48,8 @@ returns-in_err-span-clause-inside g c =
 pub returns-clause-gives : goal.returns-clause-gives
 returns-clause-gives g c =
     let bits = bit_list c.args.bytes.now in
-    let seq = c.args.seq.now in
-    let coding = c.args.coding.now in
+    let seq = c.args.picture.seq.now in
+    let coding = c.args.picture.coding.now in
     let row = c.args.row in
     let head = c.in_ok-head.head in
     let has : Rests c.new-reader.result (length bits) bits = record

@@ -5,4 +5,5 @@ pub returns : goal.returns
 returns c = record {
   taken_out = read-sendable;
   of_file = λ form file number drop start program is. read-sendable start is.demuxed program is.program_is;
+  read = λ start program is. read-sendable start is.demuxed program is.program_is;
 }

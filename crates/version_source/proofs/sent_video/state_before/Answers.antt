@@ -1,5 +1,5 @@
 use Rattle.std.proofs.Common.{◌+◌, arith}
-use Rattle.version_source.proofs.Items.{no_unit}
+use Rattle.program_reader.proofs.Missing.{no_unit}
 use Rattle.version_source.proofs.StateLemmas.{next-behind, one-further}
 use Rattle.version_source.proofs.sent_video.state_before.Goals as goal
 

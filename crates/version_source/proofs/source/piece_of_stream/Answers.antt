@@ -6,6 +6,7 @@ use Rattle.version_source.proofs.KeptLemmas.{kept-many}
 use Rattle.version_source.proofs.PlaceLemmas.{names-cover}
 use Rattle.version_source.proofs.SourceLemmas.{audio-answer, audio-bounds, audio-fits, audio-is, kept-again, kept-there, may-be-asked, nowhere, own-fits, video-answer, video-is}
 use Rattle.version_source.proofs.source.piece_of_stream.Goals as goal
+use Rattle.program_reader.proofs.Missing.{no_piece}
 
 pub place_of-requires : goal.place_of-requires
 place_of-requires c = names-cover c.args.programs.now (ratios_of c.args.jobs.now) c.args.choice.now c.requires.names
@@ -15,9 +16,6 @@ unreachable-requires c =
     nowhere c.args.programs.now (ratios_of c.args.jobs.now) c.args.choice.now c.args.stream c.args.item c.args.piece c.in-None.ensures c.requires.made c.requires.piece
 
 -- ---- an audio stream
-
-abbrev no_part : AudioPiece
-no_part = record { packet = record { due = 0; gone = 0; bytes = 0 }; start = false; at = 0 }
 
 pub bounds-as_slice-item : goal.bounds-as_slice-item
 bounds-as_slice-item c =
@@ -35,7 +33,7 @@ audio_piece-requires c =
     let at = audio-is c.args.programs.now c.in-Some.place program c.as_slice.result.now audio c.as_slice-then-place-gt0-2.result.now c.as_slice-then-place-gt0.result.now c.index-programs-place.is
     c.as_slice.ensures c.index-as_slice-place.is c.as_slice-then-place-gt0-2.ensures c.as_slice-then-place-gt0.ensures in
     audio-fits c.args.programs.now (ratios_of c.args.jobs.now) c.args.choice.now c.args.stream c.args.item c.args.piece c.in-Some.place program audio c.as_slice-then-place-gt0-2.result.now
-    c.as_slice-then-place-gt0.result.now no_part c.requires.sendable at c.in-Some.ensures c.if-place-gt0.true c.requires.made c.requires.piece
+    c.as_slice-then-place-gt0.result.now no_piece c.requires.sendable at c.in-Some.ensures c.if-place-gt0.true c.requires.made c.requires.piece
 
 pub returns-then-place-gt0-clause-piece : goal.returns-then-place-gt0-clause-piece
 returns-then-place-gt0-clause-piece c =
@@ -44,7 +42,7 @@ returns-then-place-gt0-clause-piece c =
     let at = audio-is c.args.programs.now c.in-Some.place program c.as_slice.result.now audio c.as_slice-then-place-gt0-2.result.now c.as_slice-then-place-gt0.result.now c.index-programs-place.is
     c.as_slice.ensures c.index-as_slice-place.is c.as_slice-then-place-gt0-2.ensures c.as_slice-then-place-gt0.ensures in
     audio-answer c.args.programs.now (ratios_of c.args.jobs.now) c.args.choice.now c.args.stream c.args.item c.args.piece c.in-Some.place program audio c.as_slice-then-place-gt0-2.result.now
-    c.as_slice-then-place-gt0.result.now no_part c.audio_piece.result c.audio_piece.new.into at c.in-Some.ensures c.if-place-gt0.true c.requires.piece c.audio_piece.ensures.piece
+    c.as_slice-then-place-gt0.result.now no_piece c.audio_piece.result c.audio_piece.new.into at c.in-Some.ensures c.if-place-gt0.true c.requires.piece c.audio_piece.ensures.piece
 
 -- ---- a video
 

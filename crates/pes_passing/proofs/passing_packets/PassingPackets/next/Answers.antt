@@ -32,7 +32,7 @@ loop-fault-preserved g c =
           c.loop-fault.buffer c.fill.new.self ended ended c.loop-fault.self new (inv.passed left most ended was) c.in-Ok-fill.ensures.passes c.in-Some.ensures.some.0 said.same.2
           (λ file within piece stands. subst (λ (ends : Bool). StandsIn file (ended_behind ends ended new.pes.held) new) c.in-Ok-false.field-0-test
           (said.taken file ended within (c.in-Some.ensures.some.1 ∙ piece) stands)));
-      turned = subst (λ (ends : Bool). Holds ends new) c.in-Ok-false.field-0-test said.holds;
+      turned = subst (λ (ends : Bool). Holds ends new.pes) c.in-Ok-false.field-0-test said.holds;
       pids = said.same.0 ∙ inv.pids;
       index = said.same.1 ∙ inv.index;
       grows = omega (arith, inv.grows, said.same.2);
@@ -84,7 +84,7 @@ returns-in-Ok-true-clause-passed g c left most ended was =
     let said = c.in-Ok-true.ensures in
     let behind = ended_behind true ended new.pes.held in
     one_ended left (g.S.Source.left c.fill.new.source) most (g.S.Source.most c.fill.new.source) c.pass.new.self ended new new.pes.held refl
-    (subst (λ (ends : Bool). Holds ends new) c.in-Ok-true.field-0-test said.holds)
+    (subst (λ (ends : Bool). Holds ends new.pes) c.in-Ok-true.field-0-test said.holds)
     (subst (λ (held : List ℕ). HasPassed left (g.S.Source.left c.fill.new.source) most (g.S.Source.most c.fill.new.source) held behind new) (sym c.pass.ensures)
     (packet_passed left (g.S.Source.left c.loop-fault.source) (g.S.Source.left c.fill.new.source) most (g.S.Source.most c.loop-fault.source) (g.S.Source.most c.fill.new.source)
     c.loop-fault.buffer c.fill.new.self ended behind c.loop-fault.self new (c.loop-fault.invariant.passed left most ended was) c.in-Ok-fill.ensures.passes c.in-Some.ensures.some.0 said.same.2

@@ -68,9 +68,8 @@ returns-clause-holds c =
     let after = c.add.new.self in
     on_added c.add.result (λ (ends : Bool). ends ≡ (found.start && is_some old.pes.held))
     (open_of after ≡ cond found.start (Some (begun_packet found.at found.payload.now)) (option_map (with_payload found.payload.now) old.pes.held))
-    (λ (ends : Bool). Counts ends old.pes after)
-    (λ (ends : Bool). Holds ends (record { packets = c.take.new.self; index = old.index; read = old.read + 1; pes = after }))
-    c.add.ensures.ended c.add.ensures.last c.add.ensures.counts (λ ends is open_is counts. holds_added found.start old.pes after ends c.take.new.self old.index (old.read + 1) is counts)
+    (λ (ends : Bool). Counts ends old.pes after) (λ (ends : Bool). Holds ends after)
+    c.add.ensures.ended c.add.ensures.last c.add.ensures.counts (λ ends is open_is counts. holds_added found.start old.pes after ends is counts)
 
 pub returns-clause-refused : goal.returns-clause-refused
 returns-clause-refused c = on_fault c.add.result (λ (fault : DemuxFault). fault ≡ OutOfMemory) _ c.add.ensures.memory (λ fault is. inl is)

@@ -35,7 +35,8 @@ loop-k-preserved c =
       went = λ way j at. one_more_at (λ j (a b n : ℕ). IsSized way c.args.at (get_or sizes j 0) (get_or next j 0) (get_or bits j 0) a b)
           (λ j. get_or c.loop-k.self.next j 0) (λ j. get_or c.loop-k.self.bits j 0) (λ j. 0) (λ j. get_or c.add_size.new.self.next j 0) (λ j. get_or c.add_size.new.self.bits j 0) (λ j. 0) k
           (subst (λ (n : ℕ). IsSized way c.args.at (get_or sizes k 0) n (get_or bits k 0) (get_or c.add_size.new.self.next k 0) (get_or c.add_size.new.self.bits k 0)) here.0
-          (subst (λ (n : ℕ). IsSized way c.args.at (get_or sizes k 0) (get_or c.loop-k.self.next k 0) n (get_or c.add_size.new.self.next k 0) (get_or c.add_size.new.self.bits k 0)) here.1 (c.add_size.ensures.here way at)))
+          (subst (λ (n : ℕ). IsSized way c.args.at (get_or sizes k 0) (get_or c.loop-k.self.next k 0) n (get_or c.add_size.new.self.next k 0) (get_or c.add_size.new.self.bits k 0))
+          here.1 (c.add_size.ensures.here way at)))
           (λ j other. ((c.add_size.ensures.others j other).0, (c.add_size.ensures.others j other).1, omega arith)) (λ j. c.loop-k.invariant.went way j at) j;
       stay = λ j past.
           let other = c.add_size.ensures.others j (λ e. absurd (omega (arith, e, past))) in
@@ -51,4 +52,5 @@ returns-clause-each c = λ way k at below. by_place way k at below (cases_lt k c
     by_place : (way : BlockWay) (k : ℕ) → c.args.table ≡ table_number way c.args.at → k < 8 → (k < c.loop-k.k) ⊎ (c.loop-k.k ≤ k)
         → IsSized way c.args.at (get_or c.args.rung.now.sizes k 0) (get_or c.args.self.now.next k 0) (get_or c.args.self.now.bits k 0) (get_or c.loop-k.self.next k 0) (get_or c.loop-k.self.bits k 0)
     by_place way k at below (inl there) = c.loop-k.invariant.went way k at there
-    by_place way k at below (inr past) = none_sized way c.args.at _ _ _ _ _ (c.args.rung.now.gone k (omega (arith, past, c.loop-k-test.false)) below) (c.loop-k.invariant.stay k past).0 (c.loop-k.invariant.stay k past).1
+    by_place way k at below (inr past) =
+        none_sized way c.args.at _ _ _ _ _ (c.args.rung.now.gone k (omega (arith, past, c.loop-k-test.false)) below) (c.loop-k.invariant.stay k past).0 (c.loop-k.invariant.stay k past).1

@@ -34,3 +34,11 @@ append-tells g c = record {
   causes = write_causes c.result c.args.self.now c.new.self.now c.ensures.never_missing c.ensures.after;
   fault_last = on_err c.result _ refl;
 }
+
+pub distrust-tells : goal.distrust-tells
+distrust-tells g c = record {
+  counted = c.ensures.after;
+  files = refl;
+  asked = refl;
+  since = refl;
+}

@@ -8,28 +8,28 @@ use Rattle.slot_rule.proofs.run_state.RunState.send.Goals as goal
 
 pub send-requires-clause-place : goal.send-requires-clause-place
 send-requires-clause-place c =
-    at_read (λ s. IsPlace c.args.table.now c.args.choice.now s.items) c.args.table.now c.args.choice.now c.args.self.now.states.items c.deref_mut.result.now c.args.head.stream c.args.head.packet _
-    c.deref_mut.ensures.value c.requires.sender c.requires.sender.placed.place
+    at_read (λ s. IsPlace c.args.table.now c.args.choice.now s.items) c.args.table.now c.args.choice.now
+    c.args.self.now.states.items c.deref_mut.result.now c.args.head.stream c.args.head.packet _ c.deref_mut.ensures.value c.requires.sender c.requires.sender.placed.place
 
 pub send-requires-clause-numbered : goal.send-requires-clause-numbered
 send-requires-clause-numbered c =
-    at_read (λ s. All IsNumbered (packets_at c.args.table.now c.args.choice.now s.items)) c.args.table.now c.args.choice.now c.args.self.now.states.items c.deref_mut.result.now c.args.head.stream c.args.head.packet _
-    c.deref_mut.ensures.value c.requires.sender c.requires.sender.placed.numbered
+    at_read (λ s. All IsNumbered (packets_at c.args.table.now c.args.choice.now s.items)) c.args.table.now c.args.choice.now
+    c.args.self.now.states.items c.deref_mut.result.now c.args.head.stream c.args.head.packet _ c.deref_mut.ensures.value c.requires.sender c.requires.sender.placed.numbered
 
 pub send-requires-clause-keeps : goal.send-requires-clause-keeps
 send-requires-clause-keeps c =
-    at_read (λ s. KeepsPlace (packets_at c.args.table.now c.args.choice.now s.items) s) c.args.table.now c.args.choice.now c.args.self.now.states.items c.deref_mut.result.now c.args.head.stream c.args.head.packet _
-    c.deref_mut.ensures.value c.requires.sender c.requires.sender.placed.keeps
+    at_read (λ s. KeepsPlace (packets_at c.args.table.now c.args.choice.now s.items) s) c.args.table.now c.args.choice.now
+    c.args.self.now.states.items c.deref_mut.result.now c.args.head.stream c.args.head.packet _ c.deref_mut.ensures.value c.requires.sender c.requires.sender.placed.keeps
 
 pub send-requires-clause-head : goal.send-requires-clause-head
 send-requires-clause-head c =
-    at_read (λ s. s.head ≡ Some c.args.head.packet) c.args.table.now c.args.choice.now c.args.self.now.states.items c.deref_mut.result.now c.args.head.stream c.args.head.packet _
-    c.deref_mut.ensures.value c.requires.sender c.requires.sender.head
+    at_read (λ s. s.head ≡ Some c.args.head.packet) c.args.table.now c.args.choice.now
+    c.args.self.now.states.items c.deref_mut.result.now c.args.head.stream c.args.head.packet _ c.deref_mut.ensures.value c.requires.sender c.requires.sender.head
 
 pub send-requires-clause-small : goal.send-requires-clause-small
 send-requires-clause-small c =
-    at_read IsSmall c.args.table.now c.args.choice.now c.args.self.now.states.items c.deref_mut.result.now c.args.head.stream c.args.head.packet _
-    c.deref_mut.ensures.value c.requires.sender c.requires.sender.small
+    at_read IsSmall c.args.table.now c.args.choice.now
+    c.args.self.now.states.items c.deref_mut.result.now c.args.head.stream c.args.head.packet _ c.deref_mut.ensures.value c.requires.sender c.requires.sender.small
 
 pub returns-clause-sends : goal.returns-clause-sends
 returns-clause-sends c =

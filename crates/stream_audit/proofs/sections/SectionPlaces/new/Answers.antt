@@ -1,4 +1,3 @@
-use Rattle.std.proofs.Common.{refl}
 use Rattle.stream_audit.proofs.sections.SectionPlaces.new.Goals as goal
 
 pub returns : goal.returns

@@ -10,4 +10,8 @@ returns-clause-taken c file map_pid within bytes_are stand =
     let pat : AddsPlace file pat_pid c.args.n c.in-Ok.found = subst (λ pid. AddsPlace file pid c.args.n c.in-Ok.found) stand.pat_pid_is (c.in-Ok.ensures.taken file within bytes_are stand.pat) in
     let map_adds : AddsPlace file map_pid c.args.n c.in-Ok-take.found = subst (λ pid. AddsPlace file pid c.args.n c.in-Ok-take.found) stand.map_pid_is
     (c.in-Ok-take.ensures.taken file within bytes_are stand.map) in
-    ap option_to_list c.or.ensures ∙ section_found file map_pid c.args.n c.in-Ok.found c.in-Ok-take.found pat map_adds
+    record {
+      found_is = ap option_to_list c.or.ensures ∙ section_found file map_pid c.args.n c.in-Ok.found c.in-Ok-take.found pat map_adds;
+      pat_sound = pat.sound;
+      map_sound = map_adds.sound;
+    }

@@ -8,7 +8,7 @@ pub new-leaves-requires-in-System : goal.new-leaves-requires-in-System
 new-leaves-requires-in-System c =
     let decoder = c.args.self.now in
     subst (EachAtMost (2 ^ 63)) (sym (system_leak-is decoder.slot decoder.kind decoder.arrivals.now c.passing.result c.in-System.is c.passing.ensures))
-    (system_in_time decoder.slot decoder.arrivals.now c.requires.slot_fits c.requires.slots_rise c.requires.slots_fit)
+    (system_in_time decoder.slot decoder.arrivals.now c.requires.limits.slot_fits c.requires.limits.slots_rise c.requires.limits.slots_fit)
 
 pub returns-in-Video : goal.returns-in-Video
 returns-in-Video c =

@@ -8,13 +8,13 @@ pub first_old-requires : goal.first_old-requires
 first_old-requires c =
     let decoder = c.args.self.now in
     subst (EachAtMost (2 ^ 62)) (sym c.bytes.ensures.instants)
-    (arrive_in_time decoder.slot decoder.arrivals.now c.requires.slot_fits c.requires.slots_rise c.requires.slots_fit)
+    (arrive_in_time decoder.slot decoder.arrivals.now c.requires.limits.slot_fits c.requires.limits.slots_rise c.requires.limits.slots_fit)
 
 pub first_old-requires-in-Audio : goal.first_old-requires-in-Audio
 first_old-requires-in-Audio c =
     let decoder = c.args.self.now in
     subst (EachAtMost (2 ^ 62)) (sym c.bytes-in-Audio.ensures.instants)
-    (arrive_in_time decoder.slot decoder.arrivals.now c.requires.slot_fits c.requires.slots_rise c.requires.slots_fit)
+    (arrive_in_time decoder.slot decoder.arrivals.now c.requires.limits.slot_fits c.requires.limits.slots_rise c.requires.limits.slots_fit)
 
 pub returns-in-Video : goal.returns-in-Video
 returns-in-Video c =

@@ -1,6 +1,6 @@
 use Rattle.std.proofs.Common.{ℕ, None, subst}
 use Rattle.version_source.specs.Private.Sending.{LeaveBehind}
-use Rattle.version_source.proofs.Items.{no_unit}
+use Rattle.program_reader.proofs.Missing.{no_unit}
 use Rattle.version_source.proofs.StateLemmas.{may-precede, next-behind}
 use Rattle.version_source.proofs.sent_video.SentVideo.hold.Goals as goal
 

@@ -1,2 +1,0 @@
-pub mod PassedAudio
-pub mod Private

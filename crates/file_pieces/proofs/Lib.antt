@@ -1,0 +1,9 @@
+mod Kept
+mod Lanes
+mod Misfits
+mod OfFile
+mod Pushed
+mod ReadsLemmas
+mod Served
+mod Told
+mod Units

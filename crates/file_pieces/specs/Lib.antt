@@ -1,0 +1,10 @@
+pub mod FilePieces
+pub mod FileStream
+pub mod Lane
+pub mod LaneState
+pub mod LentPieces
+pub mod OfFile
+pub mod Private
+pub mod ProgramLanes
+pub mod Reads
+pub mod UnitAgain

@@ -1,0 +1,3 @@
+-- What private functions of the crate stand on.
+pub mod Calls
+pub mod OneVersions

@@ -1,3 +1,0 @@
-pub mod TakenVideo
-pub mod AsDemuxed
-pub mod NearTimes

@@ -1,2 +1,0 @@
-pub mod PassedVideo
-pub mod Private
