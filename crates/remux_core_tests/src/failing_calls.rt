@@ -132,17 +132,18 @@ fn calls_of_gen(rt: HostRuntime) -> Result<(), Fail> {
     Ok(())
 }
 
-/// Three reads of the program's 112,612 bytes, of which 65,536 are asked for at once and none are left at last, the start and one append of the table.
+/// Eight reads of the program, the start and one append of the table. Before all one byte is asked for behind the most that a file may have. Of the
+/// 112,612 bytes 65,536 are asked for at once: the map's pass ends with those, that of the video and that of the audio stream read three times, at last none.
 #[test]
 fn calls_of_probe(rt: HostRuntime) -> Result<(), Fail> {
     let wrong = first_wrong(
         rt.alloc(),
         &["probe", "a.ts", "1", "o"],
-        6,
+        11,
         &[
-            ended(3, 6, UNREAD_PROGRAM, Some(4)),
-            ended(4, 7, UNWRITTEN, Some(4)),
-            ended(5, 7, UNWRITTEN, Some(0)),
+            ended(8, 6, UNREAD_PROGRAM, Some(4)),
+            ended(9, 7, UNWRITTEN, Some(4)),
+            ended(10, 7, UNWRITTEN, Some(0)),
         ],
         &ended(0, 0, "{\"audio_packets\":[80],\"units\":12}\n", None),
     )?;
@@ -271,17 +272,17 @@ fn run_job(alloc: Global) -> Result<(u8, MemShelf), Fail> {
     Ok((status.code(), shelf))
 }
 
-/// Two reads of the job, three of the program, two of the certificate.
+/// Two reads of the job, eight of the program as for `probe`, two of the certificate.
 #[test]
 fn calls_of_check(rt: HostRuntime) -> Result<(), Fail> {
     let (code, shelf) = run_job(rt.alloc())?;
     assert_eq!(rt; code, 0);
     let certificate = shelf.file("c").unwrap_or(&[]);
-    for call in 1..=8u64 {
+    for call in 1..=13u64 {
         let (code, line) = match call {
             0..=2 => (6, UNREAD_JOB),
-            3..=5 => (6, UNREAD_PROGRAM),
-            6..=7 => (6, UNREAD_CERTIFICATE),
+            3..=10 => (6, UNREAD_PROGRAM),
+            11..=12 => (6, UNREAD_CERTIFICATE),
             _ => (0, "{\"bound\":0,\"verdict\":\"yes\"}\n"),
         };
         let so = checks_so(rt.alloc(), certificate, call, code, line)?;
@@ -290,17 +291,17 @@ fn calls_of_check(rt: HostRuntime) -> Result<(), Fail> {
     Ok(())
 }
 
-/// Two reads of the job, two of the list, and three of the program.
+/// Two reads of the job, two of the list, and eight of the program as for `probe`.
 #[test]
 fn calls_of_fit(rt: HostRuntime) -> Result<(), Fail> {
     let wrong = first_wrong(
         rt.alloc(),
         &["fit", "j", "l"],
-        8,
+        13,
         &[
             ended(2, 6, UNREAD_JOB, None),
             ended(4, 6, UNREAD_LIST, None),
-            ended(7, 6, UNREAD_PROGRAM, None),
+            ended(12, 6, UNREAD_PROGRAM, None),
         ],
         &ended(
             0,
